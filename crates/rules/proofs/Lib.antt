@@ -1,0 +1,17 @@
+pub mod Cases
+pub mod Tests
+pub mod Chain
+pub mod Settings
+pub mod Line
+pub mod Width
+pub mod Circle
+pub mod Count
+pub mod Picture
+pub mod Steps
+pub mod Alike
+pub mod History
+pub mod Demand3
+pub mod WellSteps
+pub mod WellCache
+pub mod Promise
+pub mod Instance

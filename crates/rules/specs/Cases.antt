@@ -1,0 +1,179 @@
+-- "Cases at the edges (P: proved)": the P cases of document 01 as one table of lists of calls with their answers, the whole session
+-- of document 01 with its output as the last row.
+use Prim.Native.Nat.{ℕ, suc}
+use mathlib.Core.Bool.{Bool, true, cond}
+use mathlib.Core.List.{List, [], _∷_, _++_}
+use lib.ListN.{replicate}
+use lib.Dec.{eqb}
+use Rattle.rules.specs.Settings.{Settings, Pieces, elements}
+use Rattle.rules.specs.Sizing.{settingsOf}
+use Rattle.rules.specs.Call.{Call, Answer}
+use Rattle.rules.specs.Call.Origin.{from-cache, from-frame, from-archive}
+use Rattle.rules.specs.Call.Answer.{outcome, reading, lending, counting, verdict}
+use Rattle.rules.specs.Call.Call.{RESET, WRITE, READ, MARK, ROLLBACK, ADVANCE, COUNTS}
+use Rattle.rules.specs.Refusal.{askedRefusal}
+use Rattle.rules.specs.Plain.{answersFrom, freshModel}
+
+-- The settings of the reset that a list of calls starts with, the calls after it, all answers, and how many of these are acceptances and
+-- refusals.
+pub record Row : Type 0 where
+  pub asked : Settings
+  pub calls : List Call
+  pub answers : List Answer
+  pub oks : ℕ
+  pub noes : ℕ
+
+abbrev reset : (lines frames pages : ℕ) → Call
+reset lines frames pages = RESET (settingsOf lines frames pages)
+
+abbrev ok : Answer
+ok = outcome 0
+
+-- "no", tab, the refusal
+abbrev refuse : ℕ → Answer
+refuse n = outcome n
+
+unfoldable pub rows : List Row
+rows =
+    -- "L = 8 and 4,096 pass; 7, 12 and 4,104 get 4."
+    record {
+      asked = settingsOf 8 16 1;
+      calls = reset 4096 16 1 ∷ reset 7 16 1 ∷ reset 12 16 1 ∷ reset 4104 16 1 ∷ [];
+      answers = ok ∷ ok ∷ refuse 4 ∷ refuse 4 ∷ refuse 4 ∷ [];
+      oks = 2;
+      noes = 3;
+    }
+    -- "F = 16 and 256 pass; 17 and 272 get 4."
+    ∷ record {
+      asked = settingsOf 8 16 1;
+      calls = reset 8 256 1 ∷ reset 8 17 1 ∷ reset 8 272 1 ∷ [];
+      answers = ok ∷ ok ∷ refuse 4 ∷ refuse 4 ∷ [];
+      oks = 2;
+      noes = 2;
+    }
+    -- "L = 8: read 4 at 124 passes, at 128 gets 9; read 2 at 127 gets 8."
+    ∷ record {
+      asked = settingsOf 8 16 1;
+      calls = READ 4 124 ∷ READ 4 128 ∷ READ 2 127 ∷ [];
+      answers = ok ∷ reading 0 0 from-archive ∷ reading 9 0 from-archive ∷ reading 8 0 from-archive ∷ [];
+      oks = 2;
+      noes = 2;
+    }
+    -- "width 3 at address 1 gets 7."
+    ∷ record {
+      asked = settingsOf 8 16 1;
+      calls = READ 3 1 ∷ WRITE 3 1 0 ∷ [];
+      answers = ok ∷ reading 7 0 from-archive ∷ refuse 7 ∷ [];
+      oks = 1;
+      noes = 2;
+    }
+    -- "width 1: 255 passes, 256 gets 10; 256 at address 128 gets 9 where L = 8."
+    ∷ record {
+      asked = settingsOf 8 16 1;
+      calls = WRITE 1 0 255 ∷ WRITE 1 0 256 ∷ WRITE 1 128 256 ∷ [];
+      answers = ok ∷ ok ∷ refuse 10 ∷ refuse 9 ∷ [];
+      oks = 2;
+      noes = 2;
+    }
+    -- "F = 16: 15 marks pass, the 16th gets 12; after ADVANCE(1) one more passes."
+    ∷ record {
+      asked = settingsOf 8 16 1;
+      calls = replicate 15 MARK ++ (MARK ∷ ADVANCE 1 ∷ MARK ∷ MARK ∷ []);
+      answers = ok ∷ replicate 15 ok ++ (refuse 12 ∷ ok ∷ ok ∷ refuse 12 ∷ []);
+      oks = 18;
+      noes = 2;
+    }
+    -- "three marks: ROLLBACK 3 passes; 4 and 0 get 11."
+    ∷ record {
+      asked = settingsOf 8 16 1;
+      calls = MARK ∷ MARK ∷ MARK ∷ ROLLBACK 4 ∷ ROLLBACK 0 ∷ ROLLBACK 3 ∷ [];
+      answers = ok ∷ ok ∷ ok ∷ ok ∷ refuse 11 ∷ refuse 11 ∷ ok ∷ [];
+      oks = 5;
+      noes = 2;
+    }
+    -- "write 7, mark, mark, advance 2: read gives 7, pages needed 0."
+    ∷ record {
+      asked = settingsOf 8 16 1;
+      calls = WRITE 1 0 7 ∷ MARK ∷ MARK ∷ ADVANCE 2 ∷ READ 1 0 ∷ COUNTS ∷ [];
+      answers = ok ∷ ok ∷ ok ∷ ok ∷ ok ∷ reading 0 7 from-cache ∷ counting 0 1 0 ∷ [];
+      oks = 7;
+      noes = 0;
+    }
+    -- "write 5, mark, write 6, mark, back 2: read gives 5."
+    ∷ record {
+      asked = settingsOf 8 16 2;
+      calls = WRITE 1 0 5 ∷ MARK ∷ WRITE 1 0 6 ∷ MARK ∷ ROLLBACK 2 ∷ READ 1 0 ∷ [];
+      answers = ok ∷ ok ∷ ok ∷ ok ∷ ok ∷ ok ∷ reading 0 5 (from-frame 0) ∷ [];
+      oks = 7;
+      noes = 0;
+    }
+    -- "write 5, mark, back 1, write 6, mark, back 1: read gives 6."
+    ∷ record {
+      asked = settingsOf 8 16 1;
+      calls = WRITE 1 0 5 ∷ MARK ∷ ROLLBACK 1 ∷ WRITE 1 0 6 ∷ MARK ∷ ROLLBACK 1 ∷ READ 1 0 ∷ [];
+      answers = ok ∷ ok ∷ ok ∷ ok ∷ ok ∷ ok ∷ ok ∷ reading 0 6 from-cache ∷ [];
+      oks = 8;
+      noes = 0;
+    }
+    -- "A whole session and its output", whose last line is "end 10 3"
+    ∷ record {
+      asked = settingsOf 8 16 2;
+      calls =
+          WRITE 4 0 305419896
+          ∷ MARK
+          ∷ WRITE 1 1 255
+          ∷ READ 4 0
+          ∷ MARK
+          ∷ WRITE 1 2 1
+          ∷ ROLLBACK 2
+          ∷ READ 4 0
+          ∷ READ 1 16
+          ∷ ROLLBACK 1
+          ∷ READ 2 1
+          ∷ COUNTS
+          ∷ [];
+      answers =
+          ok
+          ∷ ok
+          ∷ ok
+          ∷ ok
+          ∷ reading 0 318723704 from-cache
+          ∷ ok
+          ∷ refuse 13
+          ∷ ok
+          ∷ reading 0 305419896 (from-frame 0)
+          ∷ reading 0 0 from-archive
+          ∷ refuse 11
+          ∷ reading 8 0 from-archive
+          ∷ counting 0 1 1
+          ∷ [];
+      oks = 10;
+      noes = 3;
+    }
+    ∷ []
+
+-- Lent memory that is long enough for every setting.
+unfoldable pub ample : Pieces
+ample = elements (settingsOf 4096 256 4096)
+
+-- Acceptances and refusals, as the runner's tally counts them.
+unfoldable pub isOk : Answer → Bool
+isOk (outcome n) = eqb n 0
+isOk (reading n v o) = eqb n 0
+isOk (lending x) = true
+isOk (counting n live pages) = eqb n 0
+isOk (verdict n b) = eqb n 0
+
+unfoldable pub oksOf : List Answer → ℕ
+oksOf [] = 0
+oksOf (a ∷ rest) = cond (isOk a) (suc (oksOf rest)) (oksOf rest)
+
+unfoldable pub noesOf : List Answer → ℕ
+noesOf [] = 0
+noesOf (a ∷ rest) = cond (isOk a) (noesOf rest) (suc (noesOf rest))
+
+-- A row as the plain store answers it.
+unfoldable pub played : Row → Row
+played r =
+    let given = outcome (askedRefusal ample (r .asked)) ∷ answersFrom ample (freshModel (r .asked)) (r .calls) in
+    record { asked = r .asked; calls = r .calls; answers = given; oks = oksOf given; noes = noesOf given }

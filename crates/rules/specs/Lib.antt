@@ -1,0 +1,12 @@
+pub mod Settings
+pub mod Sizing
+pub mod Line
+pub mod Call
+pub mod Seen
+pub mod Refusal
+pub mod Figure3
+pub mod Plain
+pub mod Figure2
+pub mod Promise
+pub mod Demand3
+pub mod Cases

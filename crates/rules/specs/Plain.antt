@@ -1,0 +1,166 @@
+-- The plain store of demand 3: the settings and the surviving history (document 01's term), whole copies in effect, and
+-- nothing from the program's own record.
+use Prim.Native.Nat.{ℕ, zero, suc, _+_, _-_, _/_, _≤_, _<_}
+use mathlib.Core.Path.{_≡_}
+use mathlib.Core.Bool.{Bool, true, false, cond, _||_}
+use mathlib.Core.List.{List, [], _∷_}
+use lib.ListN.{length, take, drop}
+use lib.Dec.{eqb}
+use Rattle.rules.specs.Settings.{Settings, Pieces}
+use Rattle.rules.specs.Line.{Memory, IsLine, zeros, edit, lineOf, offsetOf}
+use Rattle.rules.specs.Call.{Call, Origin, Answer, refused}
+use Rattle.rules.specs.Call.Origin.{from-frame, from-archive}
+use Rattle.rules.specs.Call.Call.{RESET, WRITE, READ, LINE, LINE-REFUSAL, MARK, ROLLBACK, ADVANCE, COUNTS, CHECK}
+use Rattle.rules.specs.Seen.{Seen, further, count, needs, accepted}
+use Rattle.rules.specs.Refusal.{Facts, refusal, writeRefusal, noPage}
+use Rattle.rules.specs.Figure3.{Cache, emptyCache, holds, cacheStep}
+
+pub record Write : Type 0 where
+  pub width : ℕ
+  pub address : ℕ
+  pub value : ℕ
+
+-- The writes between two marks, newest first.
+abbrev pub Group : Type 0
+Group = List Write
+
+-- "The plain store of demand 3 holds the settings L, F and P and the surviving history." "The surviving history is a base of
+-- 16 × L bytes and a list of groups of writes." The groups stand newest first: "Its groups are the live frames, the last one
+-- CMF."
+pub record Plain : Type 0 where
+  pub settings : Settings
+  pub base : Memory
+  pub groups : List Group
+
+-- A write played onto a memory: it changes the line in which it lies.
+unfoldable pub play : Write → Memory → Memory
+play w m l = cond (eqb (lineOf (w .address)) l) (edit (w .width) (offsetOf (w .address)) (w .value) (m l)) (m l)
+
+-- A group, its oldest write first,
+unfoldable pub playGroup : Group → Memory → Memory
+playGroup [] m = m
+playGroup (w ∷ g) m = play w (playGroup g m)
+
+-- and "all groups played onto it, oldest first".
+unfoldable pub playAll : List Group → Memory → Memory
+playAll [] m = m
+playAll (g ∷ gs) m = playGroup g (playAll gs m)
+
+-- "A line has its written bit in a frame if a write of that group lies in the line."
+unfoldable pub touches : Group → ℕ → Bool
+touches [] l = false
+touches (w ∷ g) l = eqb (lineOf (w .address)) l || touches g l
+
+-- "READ's origin is the count of groups after the last one that writes the line, or the archive if none does."
+unfoldable pub originIn : List Group → ℕ → Origin
+originIn [] l = from-archive
+originIn (g ∷ gs) l = cond (touches g l) (from-frame 0) (further (originIn gs l))
+
+-- "A page is needed for each group and block of 8 lines .. with such a line": how many, among so many blocks.
+unfoldable pub pagesIn : (blocks : ℕ) → List Group → ℕ
+pagesIn blocks [] = 0
+pagesIn blocks (g ∷ gs) = count blocks (needs (touches g)) + pagesIn blocks gs
+
+-- The group of CMF.
+unfoldable pub newest : List Group → Group
+newest [] = []
+newest (g ∷ gs) = g
+
+-- What there is to see of the plain store. "READ and LINE take their bytes from the base with all groups played onto it,
+-- oldest first."
+unfoldable pub plainSeen : Plain → Seen
+plainSeen p =
+    record {
+      live = length (p .groups);
+      pages = pagesIn (p .settings .lines / 8) (p .groups);
+      current = needs (touches (newest (p .groups)));
+      latest = playAll (p .groups) (p .base);
+      origin = originIn (p .groups);
+    }
+
+-- "RESET gives a zero base and one empty group." "An accepted RESET takes its settings and starts the history anew."
+unfoldable pub fresh : Settings → Plain
+fresh s = record { settings = s; base = λ l. zeros; groups = [] ∷ [] }
+
+-- "WRITE adds to the last group". There is always one: RESET opens it, and by refusal 11 a rollback or an advance leaves one.
+unfoldable pub addWrite : Write → List Group → List Group
+addWrite w [] = []
+addWrite w (g ∷ gs) = (w ∷ g) ∷ gs
+
+-- "MARK adds an empty group, ROLLBACK(k) drops the last k groups, ADVANCE(k) plays the first k groups onto the base", "and frees
+-- them"; "the other calls change nothing."
+unfoldable pub plainStep : Call → Plain → Plain
+plainStep (RESET s) p = fresh s
+plainStep (WRITE w a v) p =
+    record {
+      settings = p .settings;
+      base = p .base;
+      groups = addWrite (record { width = w; address = a; value = v }) (p .groups);
+    }
+plainStep (READ w a) p = p
+plainStep (LINE l) p = p
+plainStep (LINE-REFUSAL l) p = p
+plainStep MARK p = record { settings = p .settings; base = p .base; groups = [] ∷ p .groups }
+plainStep (ROLLBACK k) p = record { settings = p .settings; base = p .base; groups = drop k (p .groups) }
+plainStep (ADVANCE k) p =
+    record {
+      settings = p .settings;
+      base = playAll (drop (length (p .groups) - k) (p .groups)) (p .base);
+      groups = take (length (p .groups) - k) (p .groups);
+    }
+plainStep COUNTS p = p
+plainStep CHECK p = p
+
+-- A history that calls can have left: a group for each live frame, accepted writes alone, a base of 16 × L bytes, and no more pages
+-- needed than there are.
+abbrev pub Each {ℓ} : {A : Type ℓ} → (A → Type 0) → List A → Type 0
+Each P [] = Unit {0}
+Each P (x ∷ xs) = P x × Each P xs
+
+abbrev pub Acceptable : Settings → Write → Type 0
+Acceptable s w = writeRefusal s (w .width) (w .address) (w .value) 0 ≡ 0
+
+pub record Surviving (p : Plain) : Type 0 where
+  pub some-group : 0 < length (p .groups)
+  pub in-circle : length (p .groups) ≤ p .settings .frames
+  pub writes : Each (Each (Acceptable (p .settings))) (p .groups)
+  pub base-line : (l : ℕ) → IsLine (p .base l)
+  pub base-lines : (l : ℕ) → p .settings .lines ≤ l → p .base l ≡ zeros
+  pub pages : plainSeen p .pages ≤ p .settings .pages
+
+-- "From these it decides every refusal, the first in order; 5 never comes."
+unfoldable pub plainFacts : Pieces → Plain → Call → Facts
+plainFacts lengths p c =
+    record {
+      settings = p .settings;
+      fits = true;
+      lengths = lengths;
+      live = plainSeen p .live;
+      full = noPage (p .settings) (plainSeen p) c;
+    }
+
+-- The plain store, with "demand 2's cache, run over the same list" beside it.
+pub record Model : Type 0 where
+  pub plain : Plain
+  pub cache : Cache
+
+unfoldable pub freshModel : Settings → Model
+freshModel s = record { plain = fresh s; cache = emptyCache }
+
+-- The answer, given the refusal or 0,
+unfoldable pub modelAnswer : ℕ → Model → Call → Answer
+modelAnswer zero m c = accepted (plainSeen (m .plain)) (holds (m .cache)) c
+modelAnswer (suc n) m c = refused (suc n) c
+
+-- and what the call leaves: "A refused call gets the answer fixed below and changes nothing."
+unfoldable pub modelStep : ℕ → Model → Call → Model
+modelStep zero m c = record { plain = plainStep c (m .plain); cache = cacheStep (plainSeen (m .plain)) c (m .cache) }
+modelStep (suc n) m c = m
+
+-- "It is fed each call's arguments and the lent lengths, and nothing from the program's own record": the answers to a list of
+-- calls.
+unfoldable pub answersFrom : Pieces → Model → List Call → List Answer
+answersFrom lengths m [] = []
+answersFrom lengths m (c ∷ cs) =
+    let n = refusal (plainFacts lengths (m .plain) c) c in
+    modelAnswer n m c ∷ answersFrom lengths (modelStep n m c) cs

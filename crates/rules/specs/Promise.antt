@@ -154,8 +154,8 @@ module _ (K : Kind) where
     pub lengths : K .lengths t ≡ K .lengths s
     pub past : K .past (elements (target c s)) t ≡ K .past (elements (target c s)) s
 
-  -- A list of calls with its answers, from one storage to another. "Each later call gets the state and lent memory just as the call before it, refused or
-  -- not, returned or left them; nothing else passes from call to call."
+  -- A list of calls with its answers, from one storage to another. "Each later call gets the state and lent memory just as the call before
+  -- it, refused or not, returned or left them; nothing else passes from call to call."
   pub data Run : K .Storage → List Call → List Answer → K .Storage → Type 0 where
     stop : {s : K .Storage} → Run s [] [] s
     next : {s t u : K .Storage} {c : Call} {cs : List Call} {a : Answer} {answers : List Answer} → Promise c s a t → Run t cs answers u

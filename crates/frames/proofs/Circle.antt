@@ -1,0 +1,43 @@
+-- Frames and their indexes from OMF, one to one round the circle. Assumes nothing.
+use mathlib.Core.Path.{_≡_, sym}
+use mathlib.Core.Logic.{inl, inr, ⊎-elim}
+use Prim.Native.Nat.{ℕ, _+_, _-_, _%_, _<_}
+use native.Mathlib.Nat.{mod-lt}
+use native.Mathlib.Omega.{arith}
+use Rattle.rules.proofs.Circle.{wrap, Reaches, index-reaches, reaches-index}
+use mir.Syntax.{w32}
+use mir.Val.{Fits}
+use Rattle.frames.specs.Circle.{Turn, indexOf, frameAt}
+
+module _ (n omf : ℕ) (h : omf < n) where
+  pub frame-below : (i : ℕ) → frameAt n omf i < n
+  unfolding frameAt
+  frame-below i = mod-lt (omf + i) (omega arith)
+
+  pub index-below : (f : ℕ) → indexOf n omf f < n
+  unfolding indexOf
+  index-below f = mod-lt (f + n - omf) (omega arith)
+
+  -- a frame lies its index on from OMF, at most once round
+  pub frame-cases : (i : ℕ) → i < n → Reaches n omf i (frameAt n omf i)
+  unfolding frameAt
+  frame-cases i b = ⊎-elim (λ w. inl (sym (w .1))) (λ w. inr (sym (w .1))) (wrap n (omf + i) (omega arith))
+
+  pub index-frame : (i : ℕ) → i < n → indexOf n omf (frameAt n omf i) ≡ i
+  unfolding indexOf
+  index-frame i b = reaches-index n (frameAt n omf i) omf i (frame-below i) h b (frame-cases i b)
+
+  pub frame-index : (f : ℕ) → f < n → frameAt n omf (indexOf n omf f) ≡ f
+  unfolding indexOf
+  frame-index f b =
+      ⊎-elim
+      (λ e. ⊎-elim (λ d. omega (arith, e, d)) (λ d. absurd (omega (arith, e, d, frame-below i))) (frame-cases i (index-below f)))
+      (λ e. ⊎-elim (λ d. absurd (omega (arith, e, d, frame-below i))) (λ d. omega (arith, e, d)) (frame-cases i (index-below f)))
+      (index-reaches n f omf b h)
+    where
+      i : ℕ
+      i = (f + n - omf) % n
+
+-- one more than an index fits its type
+pub live-small : (n omf f r : ℕ) → r ≡ indexOf n omf f → Turn n omf f → Fits w32 (r + 1)
+live-small n omf f r e t = record { fits = omega (arith, index-below n omf (t .omf-below) f, t .few) }

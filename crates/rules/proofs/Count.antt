@@ -9,12 +9,12 @@ use native.Mathlib.Omega.{arith}
 use Rattle.rules.specs.Seen.{any, count, needs}
 use Rattle.rules.specs.Figure2.{pagesOf}
 
-any-same : (n : ℕ) (f g : ℕ → Bool) → ((i : ℕ) → i < n → f i ≡ g i) → any n f ≡ any n g
+pub any-same : (n : ℕ) (f g : ℕ → Bool) → ((i : ℕ) → i < n → f i ≡ g i) → any n f ≡ any n g
 unfolding any
 any-same zero f g h = refl
 any-same (suc n) f g h = ap₂ (λ (a b : Bool). a || b) (h n (omega arith)) (any-same n f g (λ i b. h i (omega arith)))
 
-any-true : (n : ℕ) (f : ℕ → Bool) (i : ℕ) → i < n → f i ≡ true → any n f ≡ true
+pub any-true : (n : ℕ) (f : ℕ → Bool) (i : ℕ) → i < n → f i ≡ true → any n f ≡ true
 unfolding any
 any-true zero f i b e = absurd (omega arith)
 any-true (suc n) f i b e = go (ℕ-discrete i n) (λ d. any-true n f i (omega arith) e)
@@ -23,10 +23,26 @@ any-true (suc n) f i b e = go (ℕ-discrete i n) (λ d. any-true n f i (omega ar
     go (yes q) ih = ap (λ (x : Bool). x || any n f) (ap f (sym q) ∙ e)
     go (no d) ih = ap (λ (x : Bool). f n || x) (ih d) ∙ or-true (f n)
 
-any-none : (n : ℕ) → any n (λ i. false) ≡ false
+pub any-none : (n : ℕ) (f : ℕ → Bool) → ((i : ℕ) → i < n → f i ≡ false) → any n f ≡ false
 unfolding any
-any-none zero = refl
-any-none (suc n) = any-none n
+any-none zero f h = refl
+any-none (suc n) f h = ap₂ (λ (a b : Bool). a || b) (h n (omega arith)) (any-none n f (λ i b. h i (omega arith)))
+
+pub any-false : (n : ℕ) (f : ℕ → Bool) → any n f ≡ false → (i : ℕ) → i < n → f i ≡ false
+any-false n f e i b = go (f i) refl
+  where
+    go : (t : Bool) → f i ≡ t → t ≡ false
+    go true p = absurd (mathlib.Core.Bool.false≢true (sym e ∙ any-true n f i b p))
+    go false p = refl
+
+pub any-found : (n : ℕ) (f : ℕ → Bool) → any n f ≡ true → (i : ℕ) × (i < n) × (f i ≡ true)
+unfolding any
+any-found zero f e = absurd (mathlib.Core.Bool.false≢true e)
+any-found (suc n) f e = go (f n) refl e (any-found n f)
+  where
+    go : (t : Bool) → f n ≡ t → (t || any n f) ≡ true → (any n f ≡ true → (i : ℕ) × (i < n) × (f i ≡ true)) → (i : ℕ) × (i < suc n) × (f i ≡ true)
+    go true p e ih = (n, omega arith, p)
+    go false p e ih = let h = ih e in (h .0, omega (arith, h .1), h .2)
 
 count-none : (n : ℕ) (f : ℕ → Bool) → ((i : ℕ) → f i ≡ false) → count n f ≡ 0
 unfolding count
@@ -67,7 +83,7 @@ count-off (suc n) f g k h = go (ℕ-discrete n k) (f n) (g n) refl refl (count-o
 
 needs-none : (row : ℕ → Bool) → ((l : ℕ) → row l ≡ false) → (b : ℕ) → needs row b ≡ false
 unfolding needs
-needs-none row h b = any-same 8 _ (λ i. false) (λ i c. h (b * 8 + i)) ∙ any-none 8
+needs-none row h b = any-none 8 _ (λ i c. h (b * 8 + i))
 
 pub blocks-none : (n : ℕ) (row : ℕ → Bool) → ((l : ℕ) → row l ≡ false) → count n (needs row) ≡ 0
 blocks-none n row h = count-none n (needs row) (needs-none row h)

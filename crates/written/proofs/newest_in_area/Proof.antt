@@ -1,0 +1,32 @@
+-- `written::newest_in_area` meets its contract. Assumes nothing.
+use Rattle.written.proofs.Areas.{asks-near}
+use Rattle.written.proofs.Runs.{area-is}
+use borrow.Author.Needs.{needs}
+use Rattle.written.proofs.newest_in_area.Statement.{statement}
+use Rattle.written.proofs.newest_in_area.Tie as tie
+use Rattle.written.proofs.newest_in_area.Reads as reads
+use Rattle.written.proofs.newest_in_area.Lts as lts
+use Rattle.frames.proofs.frame_at.Reads as frame-at-reads
+use Rattle.written.proofs.bound_of.Reads as bound-of-reads
+use Rattle.written.proofs.group_at.Reads as group-at-reads
+use Rattle.written.proofs.newest_run.Reads as newest-run-reads
+
+frame-at-requires : tie.Need-frame-at-requires
+frame-at-requires c κs = search needs
+
+group-at-requires : tie.Need-group-at-requires
+group-at-requires c κs = asks-near _ _ _ _ (c .before .before .before .pre) (c .frame-at .ensures)
+
+bound-of-requires : tie.Need-bound-of-requires
+bound-of-requires c κs = search needs
+
+newest-run-requires : tie.Need-newest-run-requires
+newest-run-requires c κs = search needs
+
+returns : tie.Need-returns
+returns c = search area-is
+
+pub newest-in-area-spec : {M : Type 1} → statement M
+newest-in-area-spec =
+    tie.close
+    (tie.spec frame-at-requires group-at-requires bound-of-requires newest-run-requires returns)

@@ -1,0 +1,43 @@
+-- `written::run_has` meets its contract. Assumes nothing.
+use native.Mathlib.Omega.{arith}
+use Rattle.written.proofs.Areas.{asks-near}
+use Rattle.written.proofs.Blocks.{up-fits, run-is}
+use borrow.Author.Needs.{needs}
+use Rattle.written.proofs.run_has.Statement.{statement}
+use Rattle.written.proofs.run_has.Tie as tie
+use Rattle.written.proofs.run_has.Reads as reads
+use Rattle.written.proofs.run_has.Lts as lts
+use Rattle.frames.proofs.frame_at.Reads as frame-at-reads
+use Rattle.written.proofs.bound_of.Reads as bound-of-reads
+use Rattle.written.proofs.group_at.Reads as group-at-reads
+use Rattle.written.proofs.run_up.Reads as run-up-reads
+use Rattle.written.proofs.stands_in.Reads as stands-in-reads
+
+frame-at-requires : tie.Need-frame-at-requires
+frame-at-requires c κs = search needs
+
+group-at-requires : tie.Need-group-at-requires
+group-at-requires c κs = asks-near _ _ _ _ (c .before .before .before .pre .0) (c .frame-at .ensures)
+
+bound-of-requires : tie.Need-bound-of-requires
+bound-of-requires c κs = search needs
+
+run-up-requires : tie.Need-run-up-requires
+run-up-requires c κs = search needs
+
+stands-in-requires : tie.Need-stands-in-requires
+stands-in-requires c κs = (c .before .bound-of .ensures .1, up-fits _ _ _ _ _ _ (c .before .before .before .frame-at .ensures) (c .run-up .ensures), omega arith)
+
+returns : tie.Need-returns
+returns c = search run-is
+
+pub run-has-spec : {M : Type 1} → statement M
+run-has-spec =
+    tie.close
+    (tie.spec
+    frame-at-requires
+    group-at-requires
+    bound-of-requires
+    run-up-requires
+    stands-in-requires
+    returns)

@@ -1,0 +1,29 @@
+-- `written::run_up` meets its contract. Assumes nothing.
+use Rattle.written.specs.Bits.{upOf}
+use borrow.Author.Needs.{needs}
+use Rattle.written.proofs.run_up.Statement.{statement}
+use Rattle.written.proofs.run_up.Tie as tie
+use Rattle.written.proofs.run_up.Reads as reads
+use Rattle.written.proofs.run_up.Lts as lts
+use Rattle.frames.proofs.frame_at.Reads as frame-at-reads
+use Rattle.frames.proofs.least.Reads as least-reads
+use Rattle.frames.proofs.less.Reads as less-reads
+
+frame-at-requires : tie.Need-frame-at-requires
+frame-at-requires c κs = search needs
+
+sub-least : tie.Need-sub-least
+sub-least c = search needs
+
+less-requires : tie.Need-less-requires
+less-requires c κs = search needs
+
+least-requires : tie.Need-least-requires
+least-requires c κs = search needs
+
+returns : tie.Need-returns
+unfolding upOf
+returns c = cc
+
+pub run-up-spec : {M : Type 1} → statement M
+run-up-spec = tie.close (tie.spec frame-at-requires sub-least less-requires least-requires returns)

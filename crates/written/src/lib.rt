@@ -1,0 +1,189 @@
+// Written bits and the rollback history, in lent lists. Every function is safe on any contents of the lists; what the `requires` ask
+// of numbers and lengths is tested by the store, which alone calls them.
+use frames::Found;
+
+ghost use mathlib.Core.Path.{_≡_};
+ghost use Prim.Native.Nat.{_+_, _*_, _≤_, _<_};
+ghost use lib.ListN.{length, getD};
+ghost use Rattle.frames.specs.Circle.{Turn};
+ghost use Rattle.written.specs.Bits.{writtenOf, Asks, Near, AsksBlock, boundOf, placeOf, effective, newestFrom, newestRun, newestInArea, downOf, upOf, standsIn, runHas, blockHas};
+ghost use Rattle.rules.specs.Seen.{needs};
+ghost use Rattle.frames.specs.Circle.{indexOf};
+
+// The group of a line in a working area.
+fn group_at(groups: &[u32], lines: u32, area: u32, line: u32) -> u32
+    requires { ⌜ Near lines area line (length (now groups)) ⌝ }
+    ensures { λ r. ⌜ r ≡ getD (now (groups .entry)) (placeOf lines area line) 0 ⌝ }
+{
+    groups[(area * lines + line) as usize]
+}
+
+fn wide(x: u16) -> u32
+    ensures { λ r. ⌜ (r ≡ x) × (r < 65536) ⌝ }
+{
+    x as u32
+}
+
+// What the history has for a group's tag.
+fn bound_of(history: &[u16], group: u32) -> u32
+    requires { ⌜ 256 ≤ length (now history) ⌝ }
+    ensures { λ r. ⌜ (r ≡ boundOf (now (history .entry)) group) × (r < 65536) ⌝ }
+{
+    let tag = (group / 65536 % 256) as usize;
+    wide(history[tag])
+}
+
+// How far down from an index its working area goes on.
+fn run_down(index: u32, omf: u32, frames: u32) -> u32
+    requires { ⌜ Turn frames omf index ⌝ }
+    ensures { λ r. ⌜ r ≡ downOf frames omf index ⌝ }
+{
+    frames::least(frames::frame_at(index, omf, frames) % 16, index)
+}
+
+// The newest standing bit of a group from a position down.
+fn newest_run(group: u32, bound: u32, place: u32, index: u32) -> Found
+    requires { ⌜ (bound < 65536) × (place < 16) × (index < 65536) ⌝ }
+    ensures { λ r. ⌜ r ≡ newestRun group bound place index ⌝ }
+{
+    let low = place - frames::least(place, index);
+    let top = frames::least(place + 1, frames::less(bound + place, index));
+    match frames::newest_bit(group, low, top) {
+        Found::At(q) => Found::At(index + q - place),
+        Found::Nothing => Found::Nothing,
+    }
+}
+
+// The newest effective bit of a line in the working area of an index, up to that index.
+fn newest_in_area(
+    groups: &[u32],
+    history: &[u16],
+    lines: u32,
+    frames: u32,
+    omf: u32,
+    line: u32,
+    index: u32,
+) -> Found
+    requires { ⌜ Asks (writtenOf lines frames omf (now groups) (now history)) line index ⌝ }
+    ensures { λ r. ⌜ r ≡ newestInArea (writtenOf lines frames omf (now (groups .entry)) (now (history .entry))) line index ⌝ }
+{
+    let frame = frames::frame_at(index, omf, frames);
+    let group = group_at(groups, lines, frame / 16, line);
+    let bound = bound_of(history, group);
+    newest_run(group, bound, frame % 16, index)
+}
+
+// The newest effective bit of a line from a start index down: one group read for each working area passed.
+pub fn search(
+    groups: &[u32],
+    history: &[u16],
+    lines: u32,
+    frames: u32,
+    omf: u32,
+    line: u32,
+    start: u32,
+) -> Found
+    requires { ⌜ Asks (writtenOf lines frames omf (now groups) (now history)) line start ⌝ }
+    ensures { λ r. ⌜ r ≡ newestFrom (writtenOf lines frames omf (now (groups .entry)) (now (history .entry))) line start ⌝ }
+{
+    let mut i = start;
+    loop {
+        match newest_in_area(groups, history, lines, frames, omf, line, i) {
+            Found::At(found) => return Found::At(found),
+            Found::Nothing => {}
+        }
+        let down = run_down(i, omf, frames);
+        if i <= down {
+            return Found::Nothing;
+        }
+        i = i - down - 1;
+    }
+}
+
+// How far up from an index its working area goes on, at most to the end of a window.
+fn run_up(index: u32, end: u32, omf: u32, frames: u32) -> u32
+    requires { ⌜ Turn frames omf index ⌝ }
+    ensures { λ r. ⌜ r ≡ upOf frames omf index end ⌝ }
+{
+    frames::least(16 - frames::frame_at(index, omf, frames) % 16, frames::less(end, index))
+}
+
+// Whether a group has a standing bit among so many from a position up.
+fn stands_in(group: u32, bound: u32, place: u32, index: u32, up: u32) -> bool
+    requires { ⌜ (bound < 65536) × (place + up ≤ 16) × (index < 65536) ⌝ }
+    ensures { λ r. ⌜ r ≡ standsIn group bound place index up ⌝ }
+{
+    let top = frames::least(place + up, frames::less(bound + place, index));
+    match frames::newest_bit(group, place, top) {
+        Found::At(_) => true,
+        Found::Nothing => false,
+    }
+}
+
+// Whether a line has an effective bit in the working area of an index, from it up to the end of a window.
+fn run_has(
+    groups: &[u32],
+    history: &[u16],
+    lines: u32,
+    frames: u32,
+    omf: u32,
+    line: u32,
+    index: u32,
+    end: u32,
+) -> bool
+    requires { ⌜ (Asks (writtenOf lines frames omf (now groups) (now history)) line index) × (end ≤ frames) ⌝ }
+    ensures { λ r. ⌜ r ≡ runHas (writtenOf lines frames omf (now (groups .entry)) (now (history .entry))) line index end ⌝ }
+{
+    let frame = frames::frame_at(index, omf, frames);
+    let group = group_at(groups, lines, frame / 16, line);
+    let bound = bound_of(history, group);
+    stands_in(group, bound, frame % 16, index, run_up(index, end, omf, frames))
+}
+
+// Whether one of a block's eight lines has an effective bit in a window of indexes: left at the first such bit. Of each line one group
+// is read for each working area that the window touches.
+pub fn block_has(
+    groups: &[u32],
+    history: &[u16],
+    lines: u32,
+    frames: u32,
+    omf: u32,
+    block: u32,
+    from: u32,
+    end: u32,
+) -> bool
+    requires { ⌜ AsksBlock (writtenOf lines frames omf (now groups) (now history)) block end ⌝ }
+    ensures { λ r. ⌜ r ≡ blockHas (writtenOf lines frames omf (now (groups .entry)) (now (history .entry))) block from end ⌝ }
+{
+    let mut found = false;
+    let mut n = 0;
+    'lines: while n < 8 {
+        let mut i = from;
+        while i < end {
+            if run_has(groups, history, lines, frames, omf, block * 8 + n, i, end) {
+                found = true;
+                break 'lines;
+            }
+            i = i + run_up(i, end, omf, frames);
+        }
+        n = n + 1;
+    }
+    found
+}
+
+// Whether the page of a frame and block is needed: the window of that one frame.
+pub fn needed(
+    groups: &[u32],
+    history: &[u16],
+    lines: u32,
+    frames: u32,
+    omf: u32,
+    frame: u32,
+    block: u32,
+) -> bool
+    requires { ⌜ (AsksBlock (writtenOf lines frames omf (now groups) (now history)) block frames) × (frame < frames) ⌝ }
+    ensures { λ r. ⌜ r ≡ needs (effective (writtenOf lines frames omf (now (groups .entry)) (now (history .entry))) (indexOf frames omf frame)) block ⌝ }
+{
+    let index = frames::index(frame, omf, frames);
+    block_has(groups, history, lines, frames, omf, block, index, index + 1)
+}

@@ -3,10 +3,10 @@
 use mathlib.Core.Path.{_≡_, refl, sym, _∙_, ap, ap₂, subst}
 use mathlib.Core.Bool.{Bool, true, false, _&&_}
 use Prim.Native.Nat.{ℕ, suc, _+_, _-_, _*_, _/_, _%_, _^_, _≤_, _<_}
-use native.Mathlib.Nat.{mod-lt, div-eq-of-lt, div-mul-le-self, zero-div, zero-mod, mul-div-cancel, mul-mod-left, lt-of-le-of-lt, add-mul, mul-assoc, mul-comm, one-mul, div-eq-of-lt-le, pow-succ'}
+use native.Mathlib.Nat.{mod-lt, div-eq-of-lt, div-mul-le-self, zero-div, zero-mod, mul-div-cancel, mul-mod-left, lt-of-le-of-lt, add-mul, mul-assoc, mul-comm, one-mul, div-eq-of-lt-le, pow-succ', sub-add-cancel, div-lt-iff-lt-mul, add-assoc}
 use native.Mathlib.Decide.{decLt, decLe}
 use native.Mathlib.Omega.{arith}
-use lib.Arith.{digits-div, digits-mod}
+use lib.Arith.{digits-div, digits-mod, digits-lt}
 use lib.Dec.{eqb, leb}
 use lib.Pow.{pow-pos, pow-mono, pow-add, field, mod-mod-pow, shr-shr, shl-exact}
 use lib.Count.{leadingZeros, leading-top}
@@ -101,6 +101,18 @@ module _ (x p : ℕ) where
   set-over q h =
       digit-from (setAt x p) x (p + 1) q
       (sym (shr-shr (setAt x p) p 1) ∙ (ap (λ (n : ℕ). n / 2) set-div ∙ omega arith)) (omega arith)
+
+-- a number below 2 ^ m stays there when one of its m digits is set
+pub set-small : (m x p : ℕ) → x < 2 ^ m → p < m → setAt x p < 2 ^ m
+unfolding setAt
+set-small m x p h b =
+    let d : ℕ = m - (p + 1) in
+    let e : 2 ^ m ≡ 2 ^ d * 2 ^ (p + 1) =
+        ap (λ (n : ℕ). 2 ^ n) (sym (sub-add-cancel {n = m} {m = p + 1} (omega arith))) ∙ pow-add 2 d (p + 1)
+    in
+    let above : x / 2 ^ (p + 1) < 2 ^ d = div-lt-iff-lt-mul (pow-pos (p + 1)) .1 (rw e at h) in
+    let rest : 2 ^ p + x % 2 ^ p < 2 ^ (p + 1) = omega (arith, mod-lt x (pow-pos p), pow-add 2 p 1) in
+    rw (e, add-assoc) (digits-lt above rest)
 
 -- BITS
 pub digit-bit : (x y p q : ℕ) → digit x p ≡ digit y q → bit x p ≡ bit y q

@@ -45,18 +45,18 @@ pub area-below : (n f : ℕ) → n % 16 ≡ 0 → f < n → f / 16 < n / 16
 area-below n f by b = omega arith
 
 -- what a reader of one group asks
-pub asks-near : (w : Written) (l i f : ℕ) → Asks w l i → f ≡ frameAt (w .frames) (w .omf) i → Near (w .lines) (f / 16) l (lib.ListN.length (w .groups))
+pub asks-near : (w : Written) (l i f : ℕ) → Asks w l i → f ≡ frameAt (w .frames) (w .omf) i
+    → Near (w .lines) (f / 16) l × (placeOf (w .lines) (f / 16) l < lib.ListN.length (w .groups))
 asks-near w l i f a e =
     let q = a .lent in
     let b : f < w .frames = omega (arith, e, frame-below (w .frames) (w .omf) (q .omf-below) i) in
-    record {
+    (record {
       lines-few = q .lines-few;
       area-few = omega (arith, q .frames-few);
-      line-few = omega (arith, a .line-below, q .lines-few);
-      within =
-          omega (arith, q .groups-long,
-          place-below (w .lines) (w .frames / 16) (f / 16) l (area-below (w .frames) f (q .frames-by) b) (a .line-below))
-    }
+      line-few = omega (arith, a .line-below, q .lines-few)
+    },
+    omega (arith, q .groups-long,
+    place-below (w .lines) (w .frames / 16) (f / 16) l (area-below (w .frames) f (q .frames-by) b) (a .line-below)))
 
 pub asks-turn : (w : Written) (l i : ℕ) → Asks w l i → Turn (w .frames) (w .omf) i
 asks-turn w l i a =

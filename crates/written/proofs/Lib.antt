@@ -1,3 +1,5 @@
 pub mod Areas
 pub mod Runs
 pub mod Blocks
+pub mod Windows
+pub mod Setting

@@ -118,12 +118,11 @@ pub record Asks (w : Written) (line index : ℕ) : Type 0 where
   pub line-below : line < w .lines
   pub index-below : index < w .frames
 
--- A group's place within its list, far below the type's limit.
-pub record Near (lines area line long : ℕ) : Type 0 where
+-- A group's place, far below the type's limit.
+pub record Near (lines area line : ℕ) : Type 0 where
   pub lines-few : lines ≤ 4096
   pub area-few : area ≤ 4096
   pub line-few : line ≤ 4096
-  pub within : placeOf lines area line < long
 
 -- What the test of a block asks: its lines below L, and the window's end within the circle.
 pub record AsksBlock (w : Written) (block end : ℕ) : Type 0 where

@@ -8,18 +8,22 @@ use lib.ListN.{length, getD, set, drop}
 use Rattle.frames.specs.Circle.{frameAt}
 use Rattle.frames.specs.Digits.{setAt}
 use Rattle.written.specs.Lists.{rewrite}
-use Rattle.written.specs.Bits.{Written, placeOf, tagOf, tagged, boundOf, windowOf}
+use Rattle.written.specs.Bits.{Written, writtenOf, placeOf, tagOf, tagged, boundOf, windowOf}
 
 -- The bits of a group that stand.
 unfoldable pub maskedOf : (frames omf area : ℕ) → (history : List ℕ) → ℕ → ℕ
 maskedOf frames omf area history g = windowOf frames omf area g 0 (boundOf history g)
 
--- A written bit set: the group is masked by the history first and stored with the current tag.
+-- A written bit set in the group of a frame: the group is masked by its bound first and stored with the current tag.
+unfoldable pub regrouped : (frames omf frame bound tag g : ℕ) → ℕ
+regrouped frames omf f bound tag g = tagged tag (setAt (windowOf frames omf (f / 16) g 0 bound) (f % 16))
+
 unfoldable pub withWritten : Written → (tag line index : ℕ) → List ℕ
 withWritten w tag l i =
     let f = frameAt (w .frames) (w .omf) i in
     let at = placeOf (w .lines) (f / 16) l in
-    set (w .groups) at (tagged tag (setAt (maskedOf (w .frames) (w .omf) (f / 16) (w .history) (getD (w .groups) at 0)) (f % 16)))
+    let g = getD (w .groups) at 0 in
+    set (w .groups) at (regrouped (w .frames) (w .omf) f (boundOf (w .history) g) tag g)
 
 -- Every used entry at least as deep as the target.
 unfoldable pub entered : (tag kept : ℕ) → List ℕ → List ℕ
@@ -41,11 +45,9 @@ swept w =
     rewrite (w .frames / 16 * w .lines) (λ at g. maskedOf (w .frames) (w .omf) (at / w .lines) (w .history) g) (w .groups)
 
 -- The frames that an advance collects have no bit any more, in every line; the tags stay.
-unfoldable pub cleared : Written → (k : ℕ) → List ℕ
-cleared w k =
-    rewrite (w .frames / 16 * w .lines)
-    (λ at g. tagged (tagOf g) (windowOf (w .frames) (w .omf) (at / w .lines) g k (w .frames)))
-    (w .groups)
+unfoldable pub cleared : (lines frames omf k : ℕ) → List ℕ → List ℕ
+cleared lines frames omf k groups =
+    rewrite (frames / 16 * lines) (λ at g. tagged (tagOf g) (windowOf frames omf (at / lines) g k frames)) groups
 
 -- A bound goes down with OMF, never below 0; that no rollback was is no bound.
 unfoldable pub lowerBound : (k bound : ℕ) → ℕ
@@ -53,3 +55,23 @@ lowerBound k e = cond (eqb e 65535) e (e - k)
 
 unfoldable pub lowered : (k : ℕ) → List ℕ → List ℕ
 lowered k history = rewrite 256 (λ t e. lowerBound k e) history
+
+-- A rollback takes the next tag; past the last one the tags start afresh.
+unfoldable pub nextTag : ℕ → ℕ
+nextTag tag = cond (ltb tag 255) (tag + 1) 0
+
+-- What a rollback leaves: its target entered in the history, the next tag with no rollback since, and at the last tag all groups swept.
+pub record RolledBack (w : Written) (tag kept : ℕ) (groups history : List ℕ) (next : ℕ) : Type 0 where
+  pub entry : List ℕ
+  pub enters : Entered tag kept (w .history) entry
+  pub next-is : next ≡ nextTag tag
+  pub groups-is : groups ≡ cond (ltb tag 255) (w .groups) (swept (writtenOf (w .lines) (w .frames) (w .omf) (w .groups) entry))
+  pub history-is : history ≡ set entry next 65535
+
+-- What setting a bit asks besides, and what a rollback and an advance do.
+pub record AsksWindow (frames omf area from end : ℕ) : Type 0 where
+  pub omf-below : omf < frames
+  pub area-below : area * 16 < frames
+  pub frames-few : frames ≤ 4096
+  pub from-few : from ≤ 65535
+  pub end-few : end ≤ 65535

@@ -3,19 +3,31 @@
 use frames::Found;
 
 ghost use mathlib.Core.Path.{_≡_};
-ghost use Prim.Native.Nat.{_+_, _*_, _≤_, _<_};
+ghost use Prim.Native.Nat.{_+_, _*_, _/_, _≤_, _<_};
 ghost use lib.ListN.{length, getD};
 ghost use Rattle.frames.specs.Circle.{Turn};
 ghost use Rattle.written.specs.Bits.{writtenOf, Asks, Near, AsksBlock, boundOf, placeOf, effective, newestFrom, newestRun, newestInArea, downOf, upOf, standsIn, runHas, blockHas};
+ghost use Rattle.written.specs.Bits.{Lent, tagged, beforeWrap, afterWrap, windowOf};
+ghost use Rattle.written.specs.Steps.{AsksWindow, regrouped, withWritten, Entered, swept, cleared, lowerBound, lowered, RolledBack};
+ghost use Rattle.frames.specs.Digits.{setAt};
 ghost use Rattle.rules.specs.Seen.{needs};
 ghost use Rattle.frames.specs.Circle.{indexOf};
 
+// Where the group of a line in a working area stands.
+fn place_of(lines: u32, area: u32, line: u32) -> usize
+    requires { ⌜ Near lines area line ⌝ }
+    ensures { λ r. ⌜ r ≡ placeOf lines area line ⌝ }
+{
+    (area * lines + line) as usize
+}
+
 // The group of a line in a working area.
 fn group_at(groups: &[u32], lines: u32, area: u32, line: u32) -> u32
-    requires { ⌜ Near lines area line (length (now groups)) ⌝ }
+    requires { ⌜ (Near lines area line) × (placeOf lines area line < length (now groups)) ⌝ }
     ensures { λ r. ⌜ r ≡ getD (now (groups .entry)) (placeOf lines area line) 0 ⌝ }
 {
-    groups[(area * lines + line) as usize]
+    let at = place_of(lines, area, line);
+    groups[at]
 }
 
 fn wide(x: u16) -> u32
@@ -186,4 +198,61 @@ pub fn needed(
 {
     let index = frames::index(frame, omf, frames);
     block_has(groups, history, lines, frames, omf, block, index, index + 1)
+}
+
+// The bits of a group before the circle closes in its area, and after, in a window of indexes.
+fn before_wrap(group: u32, s: u32, u: u32, from: u32, end: u32) -> u32
+    requires { ⌜ u ≤ 16 ⌝ }
+    ensures { λ r. ⌜ r ≡ beforeWrap group s u from end ⌝ }
+{
+    let lo = frames::least(u, frames::less(from, s));
+    let hi = frames::least(u, frames::less(end, s));
+    frames::range(group, lo, hi)
+}
+
+fn after_wrap(group: u32, u: u32, from: u32, end: u32) -> u32
+    requires { ⌜ (u ≤ 16) × (from ≤ 65535) × (end ≤ 65535) ⌝ }
+    ensures { λ r. ⌜ r ≡ afterWrap group u from end ⌝ }
+{
+    frames::range(group, frames::least(16, from + u), frames::least(16, end + u))
+}
+
+// The bits of a group in an area whose index from OMF lies in a window.
+fn window(group: u32, area: u32, omf: u32, frames: u32, from: u32, end: u32) -> u32
+    requires { ⌜ AsksWindow frames omf area from end ⌝ }
+    ensures { λ r. ⌜ r ≡ windowOf frames omf area group from end ⌝ }
+{
+    let s = frames::index(area * 16, omf, frames);
+    let u = frames::least(16, frames - s);
+    before_wrap(group, s, u, from, end) + after_wrap(group, u, from, end)
+}
+
+// A group with the bit of a frame set: masked by its bound first, with the current tag.
+fn regroup(group: u32, bound: u32, frame: u32, omf: u32, frames: u32, tag: u32) -> u32
+    requires { ⌜ (AsksWindow frames omf (frame / 16) 0 bound) × (tag < 256) ⌝ }
+    ensures { λ r. ⌜ r ≡ regrouped frames omf frame bound tag group ⌝ }
+{
+    let kept = window(group, frame / 16, omf, frames, 0, bound);
+    tag * 65536 + frames::with_bit(kept, frame % 16)
+}
+
+// Sets the written bit of a line in the frame of an index.
+pub fn set(
+    groups: &mut [u32],
+    history: &[u16],
+    lines: u32,
+    frames: u32,
+    omf: u32,
+    tag: u32,
+    line: u32,
+    index: u32,
+)
+    requires { ⌜ (Asks (writtenOf lines frames omf (now groups) (now history)) line index) × (tag < 256) ⌝ }
+    ensures { λ _. ⌜ now (groups .exit) ≡ withWritten (writtenOf lines frames omf (now (groups .entry)) (now (history .entry))) tag line index ⌝ }
+{
+    let frame = frames::frame_at(index, omf, frames);
+    let at = place_of(lines, frame / 16, line);
+    let group = groups[at];
+    let bound = bound_of(history, group);
+    groups[at] = regroup(group, bound, frame, omf, frames, tag);
 }

@@ -1,31 +1,25 @@
 -- `written::group_at` meets its contract. Assumes nothing.
-use native.Mathlib.Nat.{mul-le-mul}
-use native.Mathlib.Omega.{arith}
+use mathlib.Core.Path.{ap}
+use Prim.Native.Nat.{ℕ}
+use lib.ListN.{getD}
 use borrow.Author.Needs.{needs}
 use Rattle.written.proofs.group_at.Statement.{statement}
 use Rattle.written.proofs.group_at.Tie as tie
 use Rattle.written.proofs.group_at.Reads as reads
 use Rattle.written.proofs.group_at.Lts as lts
+use Rattle.written.proofs.place_of.Reads as place-of-reads
+
+place-of-requires : tie.Need-place-of-requires
+place-of-requires c κs = search needs
 
 mul-result : tie.Need-mul-result
-mul-result c = omega (arith, mul-le-mul (c .pre .area-few) (c .pre .lines-few))
-
-add-result : tie.Need-add-result
-add-result c = omega (arith, mul-le-mul (c .pre .area-few) (c .pre .lines-few))
-
-cast-result : tie.Need-cast-result
-cast-result c = search needs
-
-mul-result-2 : tie.Need-mul-result-2
-mul-result-2 c = search needs
+mul-result c = search needs
 
 shared-slice-read-result : tie.Need-shared-slice-read-result
 shared-slice-read-result c = search needs
 
 returns : tie.Need-returns
-returns c = search needs
+returns c = ap (λ (i : ℕ). getD (c .before .before .before .args .groups .now) i 0) (c .before .place-of .ensures)
 
 pub group-at-spec : {M : Type 1} → statement M
-group-at-spec =
-    tie.close
-    (tie.spec mul-result add-result cast-result mul-result-2 shared-slice-read-result returns)
+group-at-spec = tie.close (tie.spec place-of-requires mul-result shared-slice-read-result returns)

@@ -3,7 +3,7 @@
 use frames::Found;
 
 ghost use mathlib.Core.Path.{_≡_};
-ghost use Prim.Native.Nat.{_+_, _*_, _/_, _≤_, _<_};
+ghost use Prim.Native.Nat.{_+_, _*_, _/_, _≤_, _<_, min};
 ghost use lib.ListN.{length, getD};
 ghost use Rattle.frames.specs.Circle.{Turn};
 ghost use Rattle.written.specs.Bits.{writtenOf, Asks, Near, AsksBlock, boundOf, placeOf, effective, newestFrom, newestRun, newestInArea, downOf, upOf, standsIn, runHas, blockHas};
@@ -255,4 +255,40 @@ pub fn set(
     let group = groups[at];
     let bound = bound_of(history, group);
     groups[at] = regroup(group, bound, frame, omf, frames, tag);
+}
+
+// The deeper of two targets.
+fn deeper(bound: u16, kept: u16) -> u16
+    ensures { λ r. ⌜ r ≡ min bound kept ⌝ }
+{
+    if kept < bound { kept } else { bound }
+}
+
+// Enters a rollback that keeps so many frames in the history: every used entry is compared.
+fn enter(history: &mut [u16], tag: u32, kept: u16)
+    requires { ⌜ (tag < 256) × (256 ≤ length (now history)) ⌝ }
+    ensures { λ _. ⌜ Entered tag kept (now (history .entry)) (now (history .exit)) ⌝ }
+{
+    let used = tag as usize + 1;
+    let mut t = 0;
+    while t < used {
+        history[t] = deeper(history[t], kept);
+        t = t + 1;
+    }
+}
+
+// Rewrites every group with the bits that stand, and tag 0.
+fn sweep(groups: &mut [u32], history: &[u16], lines: u32, frames: u32, omf: u32)
+    requires { ⌜ Lent (writtenOf lines frames omf (now groups) (now history)) ⌝ }
+    ensures { λ _. ⌜ now (groups .exit) ≡ swept (writtenOf lines frames omf (now (groups .entry)) (now (history .entry))) ⌝ }
+{
+    let count = frames / 16 * lines;
+    let mut at = 0;
+    while at < count {
+        let place = at as usize;
+        let group = groups[place];
+        let bound = bound_of(history, group);
+        groups[place] = window(group, at / lines, omf, frames, 0, bound);
+        at = at + 1;
+    }
 }

@@ -1,0 +1,60 @@
+-- A list rewritten element by element. Assumes nothing.
+use mathlib.Core.Path.{_≡_, refl, sym, _∙_, ap, ap₂}
+use mathlib.Core.List.{List}
+use Prim.Native.Nat.{ℕ, zero, suc, _+_, _≤_, _<_}
+use native.Mathlib.Numerals.{add-one}
+use native.Mathlib.Decide.{ℕ-discrete}
+use native.Mathlib.Omega.{arith}
+use lib.ListN.{length, getD, set, length-set}
+use lib.Seq.{getD-set-same, getD-set-other}
+use Rattle.written.specs.Lists.{rewrite}
+
+module _ (f : ℕ → ℕ → ℕ) (xs : List ℕ) where
+  pub rewrite-length : (n : ℕ) → length (rewrite n f xs) ≡ length xs
+  unfolding rewrite
+  rewrite-length zero = refl
+  rewrite-length (suc n) = length-set (rewrite n f xs) n _ ∙ rewrite-length n
+
+  pub rewrite-past : (n k : ℕ) → n ≤ k → getD (rewrite n f xs) k 0 ≡ getD xs k 0
+  unfolding rewrite
+  rewrite-past zero k h = refl
+  rewrite-past (suc n) k h = getD-set-other (rewrite n f xs) n k _ 0 (λ e. omega arith) ∙ rewrite-past n k (omega arith)
+
+  pub rewrite-at : (n k : ℕ) → k < n → k < length xs → getD (rewrite n f xs) k 0 ≡ f k (getD xs k 0)
+  unfolding rewrite
+  rewrite-at zero k h b = absurd (omega arith)
+  rewrite-at (suc n) k h b = go (ℕ-discrete k n) (λ d. rewrite-at n k (omega arith) b)
+    where
+      go : Dec (k ≡ n) → ((k ≡ n → ⊥) → getD (rewrite n f xs) k 0 ≡ f k (getD xs k 0))
+          → getD (set (rewrite n f xs) n (f n (getD xs n 0))) k 0 ≡ f k (getD xs k 0)
+      go (yes e) ih =
+          ap (λ (z : ℕ). getD (set (rewrite n f xs) n (f n (getD xs n 0))) z 0) e
+          ∙ (getD-set-same (rewrite n f xs) n (f n (getD xs n 0)) 0 (omega (arith, rewrite-length n)) ∙ ap (λ (z : ℕ). f z (getD xs z 0)) (sym e))
+      go (no d) ih = getD-set-other (rewrite n f xs) n k (f n (getD xs n 0)) 0 d ∙ ih d
+
+-- The list of a loop that rewrites a list, at its n-th turn.
+pub record Rewritten (n : ℕ) (f : ℕ → ℕ → ℕ) (xs now : List ℕ) : Type 0 where
+  pub long : length now ≡ length xs
+  pub same : now ≡ rewrite n f xs
+
+pub rewrite-start : (f : ℕ → ℕ → ℕ) (xs : List ℕ) → Rewritten 0 f xs xs
+unfolding rewrite
+rewrite-start f xs = record { long = refl; same = refl }
+
+pub rewrite-more : {f : ℕ → ℕ → ℕ} {xs now : List ℕ} {n : ℕ} (v : ℕ) → Rewritten n f xs now → v ≡ f n (getD now n 0)
+    → Rewritten (n + 1) f xs (set now n v)
+unfolding rewrite
+rewrite-more {f} {xs} {now} {n} v h e =
+    let old : getD now n 0 ≡ getD xs n 0 = ap (λ (z : List ℕ). getD z n 0) (h .same) ∙ rewrite-past f xs n n (omega arith) in
+    record {
+      long = length-set now n v ∙ h .long;
+      same =
+          ap₂ (λ (z : List ℕ) (x : ℕ). set z n x) (h .same) (e ∙ ap (f n) old)
+          ∙ ap (λ (m : ℕ). rewrite m f xs) (sym (add-one n))
+    }
+
+-- and at its end.
+pub rewrite-end : {f : ℕ → ℕ → ℕ} {xs now : List ℕ} {n : ℕ} (count : ℕ) → Rewritten n f xs now → n ≤ count → count ≤ n → now ≡ rewrite count f xs
+rewrite-end {f} {xs} {now} {n} count h a c =
+    let e : n ≡ count = omega arith in
+    h .same ∙ ap (λ (m : ℕ). rewrite m f xs) e

@@ -1,13 +1,15 @@
 -- Loops over all groups or all entries: what the code has at each turn. Assumes nothing.
 use mathlib.Core.Path.{_≡_, refl, sym, _∙_, ap}
+use mathlib.Core.Bool.{Bool, cond}
 use mathlib.Core.List.{List}
-use Prim.Native.Nat.{ℕ, _+_, _*_, _/_, _≤_, _<_, min}
+use Prim.Native.Nat.{ℕ, _+_, _*_, _/_, _-_, _≤_, _<_, min}
 use native.Mathlib.Nat.{mul-le-mul, div-lt-iff-lt-mul}
 use native.Mathlib.Omega.{arith}
+use borrow.Author.Tests.{eq-eqb, ne-eqb, lt-ltb, le-ltb}
 use lib.ListN.{length, getD, set}
 use Rattle.written.specs.Lists.{rewrite}
-use Rattle.written.specs.Bits.{Written, Lent, tagOf, tagged, boundOf, windowOf}
-use Rattle.written.specs.Steps.{AsksWindow, maskedOf, Entered, entered, swept, cleared, lowerBound, lowered}
+use Rattle.written.specs.Bits.{Written, writtenOf, Lent, tagOf, tagged, boundOf, windowOf}
+use Rattle.written.specs.Steps.{AsksWindow, maskedOf, Entered, entered, swept, cleared, lowerBound, lowered, nextTag, RolledBack}
 use Rattle.written.proofs.Lists.{rewrite-length, rewrite-past}
 
 -- the groups are few
@@ -34,3 +36,49 @@ pub masked-told : (frames omf area g b r : ℕ) (history : List ℕ) → (b ≡ 
     → r ≡ maskedOf frames omf area history g
 unfolding maskedOf
 masked-told frames omf area g b r history eb er = cc
+
+-- a bound that goes down, in the form in which the code has the tests
+pub lower-open : (k e : ℕ) → e ≡ 65535 → e ≡ lowerBound k e
+unfolding lowerBound
+lower-open k e h = sym (ap (λ (t : Bool). cond t e (e - k)) (eq-eqb e 65535 h))
+
+lower-else : (k e : ℕ) → (e ≡ 65535 → ⊥) → lowerBound k e ≡ e - k
+unfolding lowerBound
+lower-else k e h = ap (λ (t : Bool). cond t e (e - k)) (ne-eqb e 65535 h)
+
+pub lower-gone : (k e : ℕ) → (e ≡ 65535 → ⊥) → e < k → 0 ≡ lowerBound k e
+lower-gone k e h b = omega (arith, lower-else k e h)
+
+pub lower-some : (k e : ℕ) → (e ≡ 65535 → ⊥) → k ≤ e → e - k ≡ lowerBound k e
+lower-some k e h b = sym (lower-else k e h)
+
+pub cleared-told : (lines frames omf a k : ℕ) (before now : List ℕ) → (a ≡ k) × (a < 65536) → now ≡ cleared lines frames omf a before
+    → now ≡ cleared lines frames omf k before
+cleared-told lines frames omf a k before now e h = h ∙ ap (λ (n : ℕ). cleared lines frames omf n before) (e .0)
+
+-- the two ends of a rollback
+module _ (w : Written) (tag kept : ℕ) (entry : List ℕ) (h : Entered tag kept (w .history) entry) where
+  pub rolled-next : tag < 255 → RolledBack w tag kept (w .groups) (set entry (tag + 1) 65535) (tag + 1)
+  unfolding nextTag
+  rolled-next b =
+      let t = lt-ltb tag 255 b in
+      record {
+        entry = entry;
+        enters = h;
+        next-is = sym (ap (λ (z : Bool). cond z (tag + 1) 0) t);
+        groups-is = sym (ap (λ (z : Bool). cond z (w .groups) (swept (writtenOf (w .lines) (w .frames) (w .omf) (w .groups) entry))) t);
+        history-is = refl
+      }
+
+  pub rolled-swept : (groups : List ℕ) → 255 ≤ tag → groups ≡ swept (writtenOf (w .lines) (w .frames) (w .omf) (w .groups) entry)
+      → RolledBack w tag kept groups (set entry 0 65535) 0
+  unfolding nextTag
+  rolled-swept groups b e =
+      let t = le-ltb tag 255 b in
+      record {
+        entry = entry;
+        enters = h;
+        next-is = sym (ap (λ (z : Bool). cond z (tag + 1) 0) t);
+        groups-is = e ∙ sym (ap (λ (z : Bool). cond z (w .groups) (swept (writtenOf (w .lines) (w .frames) (w .omf) (w .groups) entry))) t);
+        history-is = refl
+      }

@@ -75,3 +75,11 @@ pub record AsksWindow (frames omf area from end : ℕ) : Type 0 where
   pub frames-few : frames ≤ 4096
   pub from-few : from ≤ 65535
   pub end-few : end ≤ 65535
+
+pub record AsksClear (lines frames omf k long : ℕ) : Type 0 where
+  pub lines-some : 0 < lines
+  pub lines-few : lines ≤ 4096
+  pub frames-few : frames ≤ 4096
+  pub omf-below : omf < frames
+  pub k-below : k < frames
+  pub groups-long : frames / 16 * lines ≤ long

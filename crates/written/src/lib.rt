@@ -6,9 +6,9 @@ ghost use mathlib.Core.Path.{_≡_};
 ghost use Prim.Native.Nat.{_+_, _*_, _/_, _≤_, _<_, min};
 ghost use lib.ListN.{length, getD};
 ghost use Rattle.frames.specs.Circle.{Turn};
-ghost use Rattle.written.specs.Bits.{writtenOf, Asks, Near, AsksBlock, boundOf, placeOf, effective, newestFrom, newestRun, newestInArea, downOf, upOf, standsIn, runHas, blockHas};
+ghost use Rattle.written.specs.Bits.{writtenOf, Asks, Near, AsksBlock, tagOf, boundOf, placeOf, effective, newestFrom, newestRun, newestInArea, downOf, upOf, standsIn, runHas, blockHas};
 ghost use Rattle.written.specs.Bits.{Lent, tagged, beforeWrap, afterWrap, windowOf};
-ghost use Rattle.written.specs.Steps.{AsksWindow, regrouped, withWritten, Entered, swept, cleared, lowerBound, lowered, RolledBack};
+ghost use Rattle.written.specs.Steps.{AsksWindow, AsksClear, regrouped, withWritten, Entered, swept, cleared, lowerBound, lowered, RolledBack};
 ghost use Rattle.frames.specs.Digits.{setAt};
 ghost use Rattle.rules.specs.Seen.{needs};
 ghost use Rattle.frames.specs.Circle.{indexOf};
@@ -291,4 +291,83 @@ fn sweep(groups: &mut [u32], history: &[u16], lines: u32, frames: u32, omf: u32)
         groups[place] = window(group, at / lines, omf, frames, 0, bound);
         at = at + 1;
     }
+}
+
+// A rollback that keeps so many frames: entered in the history, with the next tag, which is given; past the last one all groups are
+// swept and the tags start afresh. No written bit is cleared otherwise.
+pub fn rollback(
+    groups: &mut [u32],
+    history: &mut [u16],
+    lines: u32,
+    frames: u32,
+    omf: u32,
+    tag: u32,
+    kept: u16,
+) -> u32
+    requires { ⌜ (Lent (writtenOf lines frames omf (now groups) (now history))) × (tag < 256) ⌝ }
+    ensures { λ r. ⌜ RolledBack (writtenOf lines frames omf (now (groups .entry)) (now (history .entry))) tag kept (now (groups .exit)) (now (history .exit)) r ⌝ }
+{
+    enter(history, tag, kept);
+    if tag < 255 {
+        let next = tag + 1;
+        history[next as usize] = 65535;
+        return next;
+    }
+    sweep(groups, history, lines, frames, omf);
+    history[0] = 65535;
+    0
+}
+
+// A bound after OMF has moved k frames on.
+fn lower_bound(bound: u16, k: u16) -> u16
+    ensures { λ r. ⌜ r ≡ lowerBound k bound ⌝ }
+{
+    if bound == 65535 {
+        return bound;
+    }
+    if bound < k { 0 } else { bound - k }
+}
+
+// Lowers the entries of the history with OMF.
+fn lower(history: &mut [u16], k: u16)
+    requires { ⌜ 256 ≤ length (now history) ⌝ }
+    ensures { λ _. ⌜ now (history .exit) ≡ lowered k (now (history .entry)) ⌝ }
+{
+    let mut t = 0;
+    while t < 256 {
+        history[t] = lower_bound(history[t], k);
+        t = t + 1;
+    }
+}
+
+// A group without the bits of the frames with an index below k.
+fn without(group: u32, area: u32, omf: u32, frames: u32, k: u32) -> u32
+    requires { ⌜ AsksWindow frames omf area k frames ⌝ }
+    ensures { λ r. ⌜ r ≡ tagged (tagOf group) (windowOf frames omf area group k frames) ⌝ }
+{
+    group / 65536 % 256 * 65536 + window(group, area, omf, frames, k, frames)
+}
+
+// Clears the bits of the frames with an index below k, in every line.
+fn clear(groups: &mut [u32], lines: u32, frames: u32, omf: u32, k: u32)
+    requires { ⌜ AsksClear lines frames omf k (length (now groups)) ⌝ }
+    ensures { λ _. ⌜ now (groups .exit) ≡ cleared lines frames omf k (now (groups .entry)) ⌝ }
+{
+    let count = frames / 16 * lines;
+    let mut at = 0;
+    while at < count {
+        let place = at as usize;
+        groups[place] = without(groups[place], at / lines, omf, frames, k);
+        at = at + 1;
+    }
+}
+
+// An advance that collects the k oldest frames: their bits are cleared, and the history goes down with OMF.
+pub fn advance(groups: &mut [u32], history: &mut [u16], lines: u32, frames: u32, omf: u32, k: u16)
+    requires { ⌜ (Lent (writtenOf lines frames omf (now groups) (now history))) × (k < frames) ⌝ }
+    ensures kept { λ _. ⌜ now (groups .exit) ≡ cleared lines frames omf k (now (groups .entry)) ⌝ }
+    ensures bounds { λ _. ⌜ now (history .exit) ≡ lowered k (now (history .entry)) ⌝ }
+{
+    clear(groups, lines, frames, omf, wide(k));
+    lower(history, k);
 }

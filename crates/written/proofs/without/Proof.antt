@@ -1,0 +1,24 @@
+-- `written::without` meets its contract. Assumes nothing.
+use native.Mathlib.Omega.{arith}
+use Rattle.written.proofs.Windows.{window-small}
+use borrow.Author.Needs.{needs}
+use Rattle.written.proofs.without.Statement.{statement}
+use Rattle.written.proofs.without.Tie as tie
+use Rattle.written.proofs.without.Reads as reads
+use Rattle.written.proofs.without.Lts as lts
+use Rattle.written.proofs.window.Reads as window-reads
+
+mul-result : tie.Need-mul-result
+mul-result c = search needs
+
+window-requires : tie.Need-window-requires
+window-requires c κs = search needs
+
+add-result : tie.Need-add-result
+add-result c = omega (arith, c .window .ensures, window-small (c .before .args .frames) (c .before .args .omf) (c .before .args .area) (c .before .args .group) (c .before .args .k) (c .before .args .frames))
+
+returns : tie.Need-returns
+returns c = search needs
+
+pub without-spec : {M : Type 1} → statement M
+without-spec = tie.close (tie.spec mul-result window-requires add-result returns)

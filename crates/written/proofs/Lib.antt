@@ -5,3 +5,4 @@ pub mod Blocks
 pub mod Windows
 pub mod Setting
 pub mod Sweeping
+pub mod Rolling

@@ -1,0 +1,108 @@
+-- Rollbacks and advances: the cache steps as Figure 3's. Assumes nothing.
+use mathlib.Core.Path.{_≡_, refl, sym, _∙_, ap, fun-ext}
+use mathlib.Core.Bool.{Bool, true, false, cond, not, _&&_, and-true, and-false}
+use mathlib.Core.Option.{Option, none, some}
+use mathlib.Core.List.{List}
+use Prim.Native.Nat.{ℕ, _+_, _*_, _<_}
+use native.Mathlib.Decide.{decLt}
+use native.Mathlib.Omega.{arith}
+use borrow.Author.Tests.{not-true}
+use lib.Dec.{eqb}
+use lib.ListN.{getD, List·getD-eq-default}
+use Rattle.rules.specs.Figure3.{unlessGone, forget}
+use Rattle.rules.proofs.Tests.{both-true}
+use Rattle.cache.specs.declared.Cache.{Cache}
+use Rattle.cache.specs.Entries.{Sized, lineOf, frameOf, isValid, bytesOf, All}
+use Rattle.cache.specs.Steps.{isDropped, flagAfter, forgotten, frameAfter, collected}
+use Rattle.cache.specs.Shown.{lineIn, shown}
+use Rattle.cache.proofs.Changed.{changed-length, changed-past, changed-at}
+use Rattle.cache.proofs.Hits.{valid-below}
+use Rattle.cache.proofs.Uses.{same-ways, carried}
+
+module _ (c : Cache) (s : Sized c) (omf frames n : ℕ) where
+  pub forgotten-sized : Sized (forgotten c omf frames n)
+  unfolding forgotten
+  forgotten-sized =
+      record {
+        lines = s .lines;
+        frames = s .frames;
+        valid = changed-length (λ e flag. flagAfter omf frames n (frameOf c e) flag) (c .valid) 32 ∙ s .valid;
+        bytes = s .bytes;
+        last = s .last;
+      }
+
+  -- exactly the entries with a dropped frame become invalid
+  pub forgotten-valid : (e : ℕ) → isValid (forgotten c omf frames n) e ≡ (isValid c e && not (isDropped omf frames n (frameOf c e)))
+  unfolding forgotten isValid flagAfter
+  forgotten-valid e = go (decLt e 32)
+    where
+      flag : (b : Bool) (x : ℕ) → eqb (cond b 0 x) 1 ≡ (eqb x 1 && not b)
+      flag true x = sym (and-false (eqb x 1))
+      flag false x = sym (and-true (eqb x 1))
+
+      go : Dec (e < 32) → isValid (forgotten c omf frames n) e ≡ (isValid c e && not (isDropped omf frames n (frameOf c e)))
+      go (yes b) =
+          ap (λ (x : ℕ). eqb x 1) (changed-at (λ e flag. flagAfter omf frames n (frameOf c e) flag) (c .valid) 32 e b (omega (arith, s .valid)))
+          ∙ flag (isDropped omf frames n (frameOf c e)) (getD (c .valid) e 0)
+      go (no b) =
+          let past : getD (c .valid) e 0 ≡ 0 = List·getD-eq-default (c .valid) 0 {n = e} (omega (arith, s .valid)) in
+          ap (λ (x : ℕ). eqb x 1) (changed-past (λ e flag. flagAfter omf frames n (frameOf c e) flag) (c .valid) 32 e (omega arith) ∙ past)
+          ∙ sym (ap (λ (x : ℕ). eqb x 1 && not (isDropped omf frames n (frameOf c e))) past)
+
+  -- A rollback is Figure 3's, for lines that are gone where the test on their entry's frame says so.
+  pub forgotten-shown : (gone : ℕ → Bool)
+      → ((e : ℕ) → e < 32 → isValid c e ≡ true → gone (lineOf c e) ≡ isDropped omf frames n (frameOf c e))
+      → shown (forgotten c omf frames n) ≡ forget gone (shown c)
+  unfolding shown forget forgotten lineIn unlessGone
+  forgotten-shown gone h = fun-ext (λ set. same-ways (way (2 * set)) (way (2 * set + 1)) refl)
+    where
+      either : (x : Option ℕ) (b : Bool) → cond (not b) x none ≡ cond b none x
+      either x true = refl
+      either x false = refl
+
+      go : (e : ℕ) (b : Bool) → isValid c e ≡ b
+          → cond (b && not (isDropped omf frames n (frameOf c e))) (some (lineOf c e)) none
+          ≡ unlessGone gone (cond b (some (lineOf c e)) none)
+      go e true v =
+          rw (h e (valid-below c e s v) v)
+          (either (some (lineOf c e)) (isDropped omf frames n (frameOf c e)))
+      go e false v = refl
+
+      way : (e : ℕ) → lineIn (forgotten c omf frames n) e ≡ unlessGone gone (lineIn c e)
+      way e =
+          ap (λ (b : Bool). cond b (some (lineOf c e)) none) (forgotten-valid e) ∙ go e (isValid c e) refl
+
+  pub forgotten-all : (R Q : ℕ → ℕ → List ℕ → Type 0) → All R c
+      → ((m g : ℕ) (b : List ℕ) → isDropped omf frames n g ≡ false → R m g b → Q m g b) → All Q (forgotten c omf frames n)
+  unfolding forgotten bytesOf
+  forgotten-all R Q all kept e v =
+      let both : (isValid c e ≡ true) × (not (isDropped omf frames n (frameOf c e)) ≡ true)
+      = both-true (isValid c e) (not (isDropped omf frames n (frameOf c e))) (sym (forgotten-valid e) ∙ v) in
+      kept (lineOf c e) (frameOf c e) (bytesOf c e) (not-true (isDropped omf frames n (frameOf c e)) (both .1)) (all e (both .0))
+
+  pub collected-sized : Sized (collected c omf frames n)
+  unfolding collected
+  collected-sized =
+      record {
+        lines = s .lines;
+        frames = changed-length (λ e frame. frameAfter omf frames n frame) (c .frames) 32 ∙ s .frames;
+        valid = s .valid;
+        bytes = s .bytes;
+        last = s .last;
+      }
+
+  pub collected-shown : shown (collected c omf frames n) ≡ shown c
+  unfolding shown lineIn isValid collected
+  collected-shown = refl
+
+  pub collected-frame : (e : ℕ) → e < 32 → frameOf (collected c omf frames n) e ≡ frameAfter omf frames n (frameOf c e)
+  unfolding collected
+  collected-frame e b =
+      changed-at (λ e frame. frameAfter omf frames n frame) (c .frames) 32 e b (omega (arith, s .frames))
+
+  pub collected-all : (R Q : ℕ → ℕ → List ℕ → Type 0) → All R c
+      → ((m g : ℕ) (b : List ℕ) → R m g b → Q m (frameAfter omf frames n g) b) → All Q (collected c omf frames n)
+  unfolding collected bytesOf isValid
+  collected-all R Q all kept e v =
+      carried Q refl (sym (collected-frame e (valid-below c e s v))) refl
+      (kept (lineOf c e) (frameOf c e) (bytesOf c e) (all e v))

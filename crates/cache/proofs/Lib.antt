@@ -1,0 +1,6 @@
+pub mod Changed
+pub mod Bytes
+pub mod Returns
+pub mod Hits
+pub mod Uses
+pub mod Frames

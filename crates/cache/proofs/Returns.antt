@@ -1,0 +1,147 @@
+-- What each return of the cache's functions rests on, in the form in which the code has it. Assumes nothing.
+use mathlib.Core.Path.{_≡_, sym, _∙_, ap, ap₂}
+use mathlib.Core.Bool.{Bool, true, false, not, _&&_, and-false}
+use mathlib.Core.List.{List}
+use Prim.Native.Nat.{ℕ, _+_, _*_, _≤_, _<_}
+use native.Mathlib.Omega.{arith}
+use borrow.Author.Tests.{eq-eqb, ne-eqb, lt-ltb, le-ltb, not-true, not-false}
+use lib.Dec.{eqb, ltb}
+use lib.ListN.{getD, set}
+use lib.Seq.{paste}
+use Rattle.rules.specs.Figure3.{setOf}
+use Rattle.frames.specs.Circle.{indexOf}
+use Rattle.cache.specs.declared.Cache.{Cache}
+use Rattle.cache.specs.declared.Entry.the-variants.{Hit, Miss}
+use Rattle.cache.specs.Entries.{lineOf, frameOf, isValid, isAt, home, found, wayTaken}
+use Rattle.cache.specs.Steps.{archive, placed, changed, isBelow, isDropped, flagAfter, forgotten, frameAfter, collected}
+
+module _ (c : Cache) (e : ℕ) where
+  pub valid-one : getD (c .valid) e 0 ≡ 1 → true ≡ isValid c e
+  unfolding isValid
+  valid-one h = sym (eq-eqb (getD (c .valid) e 0) 1 h)
+
+  pub valid-other : (getD (c .valid) e 0 ≡ 1 → ⊥) → false ≡ isValid c e
+  unfolding isValid
+  valid-other h = sym (ne-eqb (getD (c .valid) e 0) 1 h)
+
+  pub at-invalid : (l : ℕ) (b : Bool) → b ≡ isValid c e → not b ≡ true → false ≡ isAt c e l
+  unfolding isAt
+  at-invalid l b d t = sym (ap (λ (z : Bool). z && eqb l (lineOf c e)) (sym d ∙ not-true b t))
+
+  pub at-line : (l : ℕ) (b : Bool) → b ≡ isValid c e → not b ≡ false → lineOf c e ≡ l → true ≡ isAt c e l
+  unfolding isAt
+  at-line l b d t h = sym (ap₂ (λ (y z : Bool). y && z) (sym d ∙ not-false b t) (eq-eqb l (lineOf c e) (sym h)))
+
+  pub at-other : (l : ℕ) → (lineOf c e ≡ l → ⊥) → false ≡ isAt c e l
+  unfolding isAt
+  at-other l h = sym (ap (λ (z : Bool). isValid c e && z) (ne-eqb l (lineOf c e) (λ d. h (sym d))) ∙ and-false (isValid c e))
+
+module _ (c : Cache) (l : ℕ) (b : Bool) (first : b ≡ isAt c (home l) l) where
+  pub found-first : b ≡ true → Hit (home l) ≡ found c l
+  unfolding found
+  found-first t = rw (sym first ∙ t)
+
+  pub taken-first : b ≡ true → 0 ≡ wayTaken c l
+  unfolding wayTaken
+  taken-first t = rw (sym first ∙ t)
+
+  module _ (f : b ≡ false) (d : Bool) (second : d ≡ isAt c (home l + 1) l) where
+    pub found-second : d ≡ true → Hit (home l + 1) ≡ found c l
+    unfolding found
+    found-second t = rw (sym first ∙ f, sym second ∙ t)
+
+    pub found-none : d ≡ false → Miss ≡ found c l
+    unfolding found
+    found-none g = rw (sym first ∙ f, sym second ∙ g)
+
+    pub taken-second : d ≡ true → 1 ≡ wayTaken c l
+    unfolding wayTaken
+    taken-second t = rw (sym first ∙ f, sym second ∙ t)
+
+    module _ (g : d ≡ false) (v : Bool) (valid0 : v ≡ isValid c (home l)) where
+      pub taken-free0 : not v ≡ true → 0 ≡ wayTaken c l
+      unfolding wayTaken
+      taken-free0 n = rw (sym first ∙ f, sym second ∙ g, sym valid0 ∙ not-true v n)
+
+      module _ (p : not v ≡ false) (w : Bool) (valid1 : w ≡ isValid c (home l + 1)) where
+        pub taken-free1 : not w ≡ true → 1 ≡ wayTaken c l
+        unfolding wayTaken
+        taken-free1 n = rw (sym first ∙ f, sym second ∙ g, sym valid0 ∙ not-false v p, sym valid1 ∙ not-true w n)
+
+        pub taken-older1 : not w ≡ false → getD (c .last) (setOf l) 0 ≡ 0 → 1 ≡ wayTaken c l
+        unfolding wayTaken
+        taken-older1 q n =
+            rw (sym first ∙ f, sym second ∙ g, sym valid0 ∙ not-false v p, sym valid1 ∙ not-false w q, eq-eqb (getD (c .last) (setOf l) 0) 0 n)
+
+        pub taken-older0 : not w ≡ false → (getD (c .last) (setOf l) 0 ≡ 0 → ⊥) → 0 ≡ wayTaken c l
+        unfolding wayTaken
+        taken-older0 q n =
+            rw (sym first ∙ f, sym second ∙ g, sym valid0 ∙ not-false v p, sym valid1 ∙ not-false w q, ne-eqb (getD (c .last) (setOf l) 0) 0 n)
+
+module _ (omf frames n frame : ℕ) where
+  pub off-circle : frames ≤ frame → false ≡ isBelow omf frames n frame
+  unfolding isBelow
+  off-circle h = sym (ap (λ (z : Bool). z && ltb (indexOf frames omf frame) n) (le-ltb frame frames h))
+
+  pub index-under : (i : ℕ) → frame < frames → i ≡ indexOf frames omf frame → i < n → true ≡ isBelow omf frames n frame
+  unfolding isBelow
+  index-under i h e b =
+      sym (ap₂ (λ (y z : Bool). y && z) (lt-ltb frame frames h) (lt-ltb (indexOf frames omf frame) n (omega (arith, sym e))))
+
+  pub index-over : (i : ℕ) → i ≡ indexOf frames omf frame → n ≤ i → false ≡ isBelow omf frames n frame
+  unfolding isBelow
+  index-over i e b =
+      sym (ap (λ (z : Bool). ltb frame frames && z) (le-ltb (indexOf frames omf frame) n (omega (arith, sym e))) ∙ and-false (ltb frame frames))
+
+  pub flag-archive : (flag : ℕ) → frame ≡ archive → flag ≡ flagAfter omf frames n frame flag
+  unfolding flagAfter isDropped
+  flag-archive flag h = rw (eq-eqb frame archive h)
+
+  pub flag-kept : (flag : ℕ) (b : Bool) → b ≡ isBelow omf frames n frame → b ≡ true → flag ≡ flagAfter omf frames n frame flag
+  unfolding flagAfter isDropped
+  flag-kept flag b e t = rw (sym e ∙ t, and-false (not (eqb frame archive)))
+
+  pub flag-dropped : (flag : ℕ) (b : Bool) → (frame ≡ archive → ⊥) → b ≡ isBelow omf frames n frame → b ≡ false
+      → 0 ≡ flagAfter omf frames n frame flag
+  unfolding flagAfter isDropped
+  flag-dropped flag b h e t = rw (ne-eqb frame archive h, sym e ∙ t)
+
+  pub frame-collected : (b : Bool) → b ≡ isBelow omf frames n frame → b ≡ true → archive ≡ frameAfter omf frames n frame
+  unfolding frameAfter
+  frame-collected b e t = rw (sym e ∙ t)
+
+  pub frame-kept : (b : Bool) → b ≡ isBelow omf frames n frame → b ≡ false → frame ≡ frameAfter omf frames n frame
+  unfolding frameAfter
+  frame-kept b e t = rw (sym e ∙ t)
+
+-- the struct that `place` builds
+pub placed-done : (c : Cache) (line frame way : ℕ) (content bytes : List ℕ) → (way ≡ wayTaken c line) × (way < 2)
+    → bytes ≡ paste (c .bytes) (16 * (home line + way)) content 16
+    → record {
+      lines = set (c .lines) (home line + way) line;
+      frames = set (c .frames) (home line + way) frame;
+      valid = set (c .valid) (home line + way) 1;
+      bytes = bytes;
+      last = set (c .last) (setOf line) way;
+    }
+    ≡ placed c line frame content
+unfolding placed
+placed-done c line frame way content bytes w e = cc (w .0)
+
+-- the loops' ends
+module _ (c : Cache) (omf frames n i : ℕ) (now : List ℕ) (most : i ≤ 32) (least : 32 ≤ i) where
+  pub forgotten-done : now ≡ changed i (λ e flag. flagAfter omf frames n (frameOf c e) flag) (c .valid)
+      → record { lines = c .lines; frames = c .frames; valid = now; bytes = c .bytes; last = c .last } ≡ forgotten c omf frames n
+  unfolding forgotten
+  forgotten-done e =
+      let d : i ≡ 32 = omega arith in
+      ap (λ (v : List ℕ). record { lines = c .lines; frames = c .frames; valid = v; bytes = c .bytes; last = c .last })
+      (e ∙ ap (λ (k : ℕ). changed k (λ e flag. flagAfter omf frames n (frameOf c e) flag) (c .valid)) d)
+
+  pub collected-done : now ≡ changed i (λ e frame. frameAfter omf frames n frame) (c .frames)
+      → record { lines = c .lines; frames = now; valid = c .valid; bytes = c .bytes; last = c .last } ≡ collected c omf frames n
+  unfolding collected
+  collected-done e =
+      let d : i ≡ 32 = omega arith in
+      ap (λ (v : List ℕ). record { lines = c .lines; frames = v; valid = c .valid; bytes = c .bytes; last = c .last })
+      (e ∙ ap (λ (k : ℕ). changed k (λ e frame. frameAfter omf frames n frame) (c .frames)) d)

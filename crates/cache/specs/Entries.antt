@@ -1,0 +1,87 @@
+-- The entries of the cache: "The cache has 16 sets of two ways; a line's set is its number modulo 16." Entry 2 * set + way.
+use Prim.Native.Nat.{ℕ, _+_, _*_, _/_, _<_}
+use mathlib.Core.Path.{_≡_}
+use mathlib.Core.Bool.{Bool, true, false, cond, not, _&&_}
+use mathlib.Core.List.{List}
+use lib.Dec.{eqb}
+use lib.ListN.{length, getD, take, drop}
+use Rattle.rules.specs.Figure3.{setOf}
+use Rattle.cache.specs.declared.Cache.{Cache}
+use Rattle.cache.specs.declared.Entry.{Entry}
+use Rattle.cache.specs.declared.Entry.the-variants.{Hit, Miss}
+
+-- The lengths of the cache's arrays. Code has them of every cache; a law on lists asks for them.
+pub record Sized (c : Cache) : Type 0 where
+  pub lines : length (c .lines) ≡ 32
+  pub frames : length (c .frames) ≡ 32
+  pub valid : length (c .valid) ≡ 32
+  pub bytes : length (c .bytes) ≡ 512
+  pub last : length (c .last) ≡ 16
+
+-- What an entry has: its line, the frame of the line's most recent version, whether it is valid, its 16 bytes.
+abbrev pub lineOf : Cache → ℕ → ℕ
+lineOf c e = getD (c .lines) e 0
+
+abbrev pub frameOf : Cache → ℕ → ℕ
+frameOf c e = getD (c .frames) e 0
+
+unfoldable pub isValid : Cache → ℕ → Bool
+isValid c e = eqb (getD (c .valid) e 0) 1
+
+unfoldable pub bytesOf : Cache → ℕ → List ℕ
+bytesOf c e = take 16 (drop (16 * e) (c .bytes))
+
+-- The entry of way 0 of a line's set. That of way 1 is the next.
+abbrev pub home : ℕ → ℕ
+home l = 2 * setOf l
+
+unfoldable pub isAt : Cache → ℕ → ℕ → Bool
+isAt c e l = isValid c e && eqb l (lineOf c e)
+
+-- The entry that holds a line.
+unfoldable pub found : Cache → ℕ → Entry
+found c l = cond (isAt c (home l) l) (Hit (home l)) (cond (isAt c (home l + 1) l) (Hit (home l + 1)) Miss)
+
+unfoldable pub isHit : Entry → Bool
+isHit (Hit e) = true
+isHit Miss = false
+
+-- The way that a use of a line takes: its own at a hit; "A miss, of a read or a write, takes way 0 if it is invalid, else way
+-- 1 if that is invalid, else the less recently used way".
+unfoldable pub wayTaken : Cache → ℕ → ℕ
+wayTaken c l =
+    cond (isAt c (home l) l) 0
+    (cond (isAt c (home l + 1) l) 1
+    (cond (not (isValid c (home l))) 0
+    (cond (not (isValid c (home l + 1))) 1
+    (cond (eqb (getD (c .last) (setOf l) 0) 0) 1 0))))
+
+-- and its entry.
+abbrev pub entryTaken : Cache → ℕ → ℕ
+entryTaken c l = home l + wayTaken c l
+
+-- The entry in which `found` finds a line.
+pub record FoundAt (c : Cache) (l e : ℕ) : Type 0 where
+  pub valid : isValid c e ≡ true
+  pub line : lineOf c e ≡ l
+  pub set : e / 2 ≡ setOf l
+  pub below : e < 32
+  pub taken : e ≡ entryTaken c l
+
+-- A valid entry with this line, frame and bytes.
+pub record Has (c : Cache) (e line frame : ℕ) (bytes : List ℕ) : Type 0 where
+  pub valid : isValid c e ≡ true
+  pub line-is : lineOf c e ≡ line
+  pub frame-is : frameOf c e ≡ frame
+  pub bytes-are : bytesOf c e ≡ bytes
+
+-- An entry that two caches have alike.
+pub record SameAt (e : ℕ) (a b : Cache) : Type 0 where
+  pub valid : isValid a e ≡ isValid b e
+  pub line : lineOf a e ≡ lineOf b e
+  pub frame : frameOf a e ≡ frameOf b e
+  pub bytes : bytesOf a e ≡ bytesOf b e
+
+-- What is true of every valid entry's line, frame and bytes.
+abbrev pub All : (ℕ → ℕ → List ℕ → Type 0) → Cache → Type 0
+All R c = (e : ℕ) → isValid c e ≡ true → R (lineOf c e) (frameOf c e) (bytesOf c e)

@@ -1,0 +1,20 @@
+-- The cache as Figure 3's: which line each way of each set holds, and which way was used last.
+use Prim.Native.Nat.{ℕ, _+_, _*_}
+use mathlib.Core.Bool.{cond}
+use mathlib.Core.Option.{Option, none, some}
+use lib.Dec.{eqb}
+use lib.ListN.{getD}
+use Rattle.rules.specs.Figure3 as figure
+use Rattle.rules.specs.Figure3.{Way}
+use Rattle.rules.specs.Figure3.Way.{way0, way1}
+use Rattle.cache.specs.declared.Cache.{Cache}
+use Rattle.cache.specs.Entries.{lineOf, isValid}
+
+unfoldable pub lineIn : Cache → ℕ → Option ℕ
+lineIn c e = cond (isValid c e) (some (lineOf c e)) none
+
+unfoldable pub wayOf : ℕ → Way
+wayOf n = cond (eqb n 0) way0 way1
+
+unfoldable pub shown : Cache → figure.Cache
+shown c set = record { first = lineIn c (2 * set); second = lineIn c (2 * set + 1); last = wayOf (getD (c .last) set 0) }

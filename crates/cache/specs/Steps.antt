@@ -1,0 +1,74 @@
+-- What each call does to the cache.
+use Prim.Native.Nat.{ℕ, zero, suc, _*_}
+use mathlib.Core.Bool.{Bool, cond, not, _&&_}
+use mathlib.Core.List.{List}
+use lib.Dec.{eqb, ltb}
+use lib.ListN.{getD, set, replicate}
+use lib.Seq.{paste}
+use Rattle.rules.specs.Figure3.{setOf}
+use Rattle.frames.specs.Circle.{indexOf}
+use Rattle.cache.specs.declared.Cache.{Cache}
+use Rattle.cache.specs.Entries.{frameOf, wayTaken, entryTaken}
+
+-- The frame number of an entry whose line's most recent version is the archive's.
+abbrev pub archive : ℕ
+archive = 65535
+
+-- RESET: "cache empty".
+unfoldable pub emptied : Cache
+emptied =
+    record { lines = replicate 32 0; frames = replicate 32 0; valid = replicate 32 0; bytes = replicate 512 0; last = replicate 16 0 }
+
+-- A use of a line, by a read or a write, hit or miss: its way has the line with this frame and these bytes. "the way taken becomes
+-- most recently used", "A hit moves its way to most recently used", "It is write-through".
+unfoldable pub placed : Cache → (line frame : ℕ) → List ℕ → Cache
+placed c line frame bytes =
+    record {
+      lines = set (c .lines) (entryTaken c line) line;
+      frames = set (c .frames) (entryTaken c line) frame;
+      valid = set (c .valid) (entryTaken c line) 1;
+      bytes = paste (c .bytes) (16 * entryTaken c line) bytes 16;
+      last = set (c .last) (setOf line) (wayTaken c line);
+    }
+
+-- The first n numbers of a list changed, each by its place and itself.
+unfoldable pub changed : ℕ → (ℕ → ℕ → ℕ) → List ℕ → List ℕ
+changed zero f xs = xs
+changed (suc n) f xs = set (changed n f xs) n (f n (getD xs n 0))
+
+-- Whether a frame number lies on the circle with an index from OMF below n.
+unfoldable pub isBelow : (omf frames n frame : ℕ) → Bool
+isBelow omf frames n frame = ltb frame frames && ltb (indexOf frames omf frame) n
+
+-- Whether a rollback that keeps the frames with an index below `kept` drops an entry with this frame: "Rollback makes an entry
+-- invalid exactly if its line's most recent version lay in a dropped frame." A number off the circle, which no well-formed cache
+-- has, is dropped with them.
+unfoldable pub isDropped : (omf frames kept frame : ℕ) → Bool
+isDropped omf frames kept frame = not (eqb frame archive) && not (isBelow omf frames kept frame)
+
+unfoldable pub flagAfter : (omf frames kept frame flag : ℕ) → ℕ
+flagAfter omf frames kept frame flag = cond (isDropped omf frames kept frame) 0 flag
+
+unfoldable pub forgotten : Cache → (omf frames kept : ℕ) → Cache
+forgotten c omf frames kept =
+    record {
+      lines = c .lines;
+      frames = c .frames;
+      valid = changed 32 (λ e flag. flagAfter omf frames kept (frameOf c e) flag) (c .valid);
+      bytes = c .bytes;
+      last = c .last;
+    }
+
+-- The frame number of an entry after an advance over k frames: "Lines collected by ADVANCE keep their entries and count as archive."
+unfoldable pub frameAfter : (omf frames k frame : ℕ) → ℕ
+frameAfter omf frames k frame = cond (isBelow omf frames k frame) archive frame
+
+unfoldable pub collected : Cache → (omf frames k : ℕ) → Cache
+collected c omf frames k =
+    record {
+      lines = c .lines;
+      frames = changed 32 (λ e frame. frameAfter omf frames k frame) (c .frames);
+      valid = c .valid;
+      bytes = c .bytes;
+      last = c .last;
+    }

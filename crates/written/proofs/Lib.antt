@@ -6,3 +6,4 @@ pub mod Windows
 pub mod Setting
 pub mod Sweeping
 pub mod Rolling
+pub mod Advancing

@@ -42,7 +42,7 @@ pub lower-open : (k e : ℕ) → e ≡ 65535 → e ≡ lowerBound k e
 unfolding lowerBound
 lower-open k e h = sym (ap (λ (t : Bool). cond t e (e - k)) (eq-eqb e 65535 h))
 
-lower-else : (k e : ℕ) → (e ≡ 65535 → ⊥) → lowerBound k e ≡ e - k
+pub lower-else : (k e : ℕ) → (e ≡ 65535 → ⊥) → lowerBound k e ≡ e - k
 unfolding lowerBound
 lower-else k e h = ap (λ (t : Bool). cond t e (e - k)) (ne-eqb e 65535 h)
 

@@ -15,7 +15,7 @@ use Rattle.cache.specs.declared.Cache.{Cache}
 use Rattle.cache.specs.Entries.{Sized, lineOf, frameOf, isValid, bytesOf, All}
 use Rattle.cache.specs.Steps.{isDropped, flagAfter, forgotten, frameAfter, collected}
 use Rattle.cache.specs.Shown.{lineIn, shown}
-use Rattle.cache.proofs.Changed.{changed-length, changed-past, changed-at}
+use Rattle.frames.proofs.Lists.{rewrite-length, rewrite-past, rewrite-at}
 use Rattle.cache.proofs.Hits.{valid-below}
 use Rattle.cache.proofs.Uses.{same-ways, carried}
 
@@ -26,7 +26,7 @@ module _ (c : Cache) (s : Sized c) (omf frames n : ℕ) where
       record {
         lines = s .lines;
         frames = s .frames;
-        valid = changed-length (λ e flag. flagAfter omf frames n (frameOf c e) flag) (c .valid) 32 ∙ s .valid;
+        valid = rewrite-length (λ e flag. flagAfter omf frames n (frameOf c e) flag) (c .valid) 32 ∙ s .valid;
         bytes = s .bytes;
         last = s .last;
       }
@@ -42,11 +42,11 @@ module _ (c : Cache) (s : Sized c) (omf frames n : ℕ) where
 
       go : Dec (e < 32) → isValid (forgotten c omf frames n) e ≡ (isValid c e && not (isDropped omf frames n (frameOf c e)))
       go (yes b) =
-          ap (λ (x : ℕ). eqb x 1) (changed-at (λ e flag. flagAfter omf frames n (frameOf c e) flag) (c .valid) 32 e b (omega (arith, s .valid)))
+          ap (λ (x : ℕ). eqb x 1) (rewrite-at (λ e flag. flagAfter omf frames n (frameOf c e) flag) (c .valid) 32 e b (omega (arith, s .valid)))
           ∙ flag (isDropped omf frames n (frameOf c e)) (getD (c .valid) e 0)
       go (no b) =
           let past : getD (c .valid) e 0 ≡ 0 = List·getD-eq-default (c .valid) 0 {n = e} (omega (arith, s .valid)) in
-          ap (λ (x : ℕ). eqb x 1) (changed-past (λ e flag. flagAfter omf frames n (frameOf c e) flag) (c .valid) 32 e (omega arith) ∙ past)
+          ap (λ (x : ℕ). eqb x 1) (rewrite-past (λ e flag. flagAfter omf frames n (frameOf c e) flag) (c .valid) 32 e (omega arith) ∙ past)
           ∙ sym (ap (λ (x : ℕ). eqb x 1 && not (isDropped omf frames n (frameOf c e))) past)
 
   -- A rollback is Figure 3's, for lines that are gone where the test on their entry's frame says so.
@@ -85,7 +85,7 @@ module _ (c : Cache) (s : Sized c) (omf frames n : ℕ) where
   collected-sized =
       record {
         lines = s .lines;
-        frames = changed-length (λ e frame. frameAfter omf frames n frame) (c .frames) 32 ∙ s .frames;
+        frames = rewrite-length (λ e frame. frameAfter omf frames n frame) (c .frames) 32 ∙ s .frames;
         valid = s .valid;
         bytes = s .bytes;
         last = s .last;
@@ -98,7 +98,7 @@ module _ (c : Cache) (s : Sized c) (omf frames n : ℕ) where
   pub collected-frame : (e : ℕ) → e < 32 → frameOf (collected c omf frames n) e ≡ frameAfter omf frames n (frameOf c e)
   unfolding collected
   collected-frame e b =
-      changed-at (λ e frame. frameAfter omf frames n frame) (c .frames) 32 e b (omega (arith, s .frames))
+      rewrite-at (λ e frame. frameAfter omf frames n frame) (c .frames) 32 e b (omega (arith, s .frames))
 
   pub collected-all : (R Q : ℕ → ℕ → List ℕ → Type 0) → All R c
       → ((m g : ℕ) (b : List ℕ) → R m g b → Q m (frameAfter omf frames n g) b) → All Q (collected c omf frames n)

@@ -1,4 +1,3 @@
-pub mod Changed
 pub mod Bytes
 pub mod Returns
 pub mod Hits

@@ -13,7 +13,8 @@ use Rattle.frames.specs.Circle.{indexOf}
 use Rattle.cache.specs.declared.Cache.{Cache}
 use Rattle.cache.specs.declared.Entry.the-variants.{Hit, Miss}
 use Rattle.cache.specs.Entries.{lineOf, frameOf, isValid, isAt, home, found, wayTaken}
-use Rattle.cache.specs.Steps.{archive, placed, changed, isBelow, isDropped, flagAfter, forgotten, frameAfter, collected}
+use Rattle.frames.specs.Lists.{rewrite}
+use Rattle.cache.specs.Steps.{archive, placed, isBelow, isDropped, flagAfter, forgotten, frameAfter, collected}
 
 module _ (c : Cache) (e : ℕ) where
   pub valid-one : getD (c .valid) e 0 ≡ 1 → true ≡ isValid c e
@@ -130,18 +131,18 @@ placed-done c line frame way content bytes w e = cc (w .0)
 
 -- the loops' ends
 module _ (c : Cache) (omf frames n i : ℕ) (now : List ℕ) (most : i ≤ 32) (least : 32 ≤ i) where
-  pub forgotten-done : now ≡ changed i (λ e flag. flagAfter omf frames n (frameOf c e) flag) (c .valid)
+  pub forgotten-done : now ≡ rewrite i (λ e flag. flagAfter omf frames n (frameOf c e) flag) (c .valid)
       → record { lines = c .lines; frames = c .frames; valid = now; bytes = c .bytes; last = c .last } ≡ forgotten c omf frames n
   unfolding forgotten
   forgotten-done e =
       let d : i ≡ 32 = omega arith in
       ap (λ (v : List ℕ). record { lines = c .lines; frames = c .frames; valid = v; bytes = c .bytes; last = c .last })
-      (e ∙ ap (λ (k : ℕ). changed k (λ e flag. flagAfter omf frames n (frameOf c e) flag) (c .valid)) d)
+      (e ∙ ap (λ (k : ℕ). rewrite k (λ e flag. flagAfter omf frames n (frameOf c e) flag) (c .valid)) d)
 
-  pub collected-done : now ≡ changed i (λ e frame. frameAfter omf frames n frame) (c .frames)
+  pub collected-done : now ≡ rewrite i (λ e frame. frameAfter omf frames n frame) (c .frames)
       → record { lines = c .lines; frames = now; valid = c .valid; bytes = c .bytes; last = c .last } ≡ collected c omf frames n
   unfolding collected
   collected-done e =
       let d : i ≡ 32 = omega arith in
       ap (λ (v : List ℕ). record { lines = c .lines; frames = v; valid = c .valid; bytes = c .bytes; last = c .last })
-      (e ∙ ap (λ (k : ℕ). changed k (λ e frame. frameAfter omf frames n frame) (c .frames)) d)
+      (e ∙ ap (λ (k : ℕ). rewrite k (λ e frame. frameAfter omf frames n frame) (c .frames)) d)

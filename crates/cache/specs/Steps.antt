@@ -1,11 +1,12 @@
 -- What each call does to the cache.
-use Prim.Native.Nat.{ℕ, zero, suc, _*_}
+use Prim.Native.Nat.{ℕ, _*_}
 use mathlib.Core.Bool.{Bool, cond, not, _&&_}
 use mathlib.Core.List.{List}
 use lib.Dec.{eqb, ltb}
-use lib.ListN.{getD, set, replicate}
+use lib.ListN.{set, replicate}
 use lib.Seq.{paste}
 use Rattle.rules.specs.Figure3.{setOf}
+use Rattle.frames.specs.Lists.{rewrite}
 use Rattle.frames.specs.Circle.{indexOf}
 use Rattle.cache.specs.declared.Cache.{Cache}
 use Rattle.cache.specs.Entries.{frameOf, wayTaken, entryTaken}
@@ -31,11 +32,6 @@ placed c line frame bytes =
       last = set (c .last) (setOf line) (wayTaken c line);
     }
 
--- The first n numbers of a list changed, each by its place and itself.
-unfoldable pub changed : ℕ → (ℕ → ℕ → ℕ) → List ℕ → List ℕ
-changed zero f xs = xs
-changed (suc n) f xs = set (changed n f xs) n (f n (getD xs n 0))
-
 -- Whether a frame number lies on the circle with an index from OMF below n.
 unfoldable pub isBelow : (omf frames n frame : ℕ) → Bool
 isBelow omf frames n frame = ltb frame frames && ltb (indexOf frames omf frame) n
@@ -54,7 +50,7 @@ forgotten c omf frames kept =
     record {
       lines = c .lines;
       frames = c .frames;
-      valid = changed 32 (λ e flag. flagAfter omf frames kept (frameOf c e) flag) (c .valid);
+      valid = rewrite 32 (λ e flag. flagAfter omf frames kept (frameOf c e) flag) (c .valid);
       bytes = c .bytes;
       last = c .last;
     }
@@ -67,7 +63,7 @@ unfoldable pub collected : Cache → (omf frames k : ℕ) → Cache
 collected c omf frames k =
     record {
       lines = c .lines;
-      frames = changed 32 (λ e frame. frameAfter omf frames k frame) (c .frames);
+      frames = rewrite 32 (λ e frame. frameAfter omf frames k frame) (c .frames);
       valid = c .valid;
       bytes = c .bytes;
       last = c .last;

@@ -108,7 +108,7 @@ unfolding setAt
 set-small m x p h b =
     let d : ℕ = m - (p + 1) in
     let e : 2 ^ m ≡ 2 ^ d * 2 ^ (p + 1) =
-        ap (λ (n : ℕ). 2 ^ n) (sym (sub-add-cancel {n = m} {m = p + 1} (omega arith))) ∙ pow-add 2 d (p + 1)
+    ap (λ (n : ℕ). 2 ^ n) (sym (sub-add-cancel {n = m} {m = p + 1} (omega arith))) ∙ pow-add 2 d (p + 1)
     in
     let above : x / 2 ^ (p + 1) < 2 ^ d = div-lt-iff-lt-mul (pow-pos (p + 1)) .1 (rw e at h) in
     let rest : 2 ^ p + x % 2 ^ p < 2 ^ (p + 1) = omega (arith, mod-lt x (pow-pos p), pow-add 2 p 1) in

@@ -1,3 +1,4 @@
+pub mod Lists
 pub mod Circle
 pub mod Search
 pub mod Digits

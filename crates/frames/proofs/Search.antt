@@ -70,7 +70,7 @@ greatest-found (suc n) f j e = go (f n) refl e (greatest-found n f j)
         record {
           below = omega (arith, h .below);
           passes = h .passes;
-          above = λ k a b. elim (ℕ-discrete k n) [ yes q ↦ ap f q ∙ p | no d ↦ h .above k a (omega arith) ]
+          above = λ k a b. elim (ℕ-discrete k n) [ yes q ↦ ap f q ∙ p | no d ↦ h .above k a (omega arith) ];
         }
 
 -- A search of the numbers from m on settles the whole search, or leaves the numbers below m.

@@ -1,8 +1,6 @@
 -- An advance: the effective bits keep their frames, whose indexes go down with OMF, and the collected frames have none. Assumes nothing.
-use mathlib.Core.Path.{_≡_, refl, sym, _∙_, ap, ap₂, subst₂}
-use mathlib.Core.Bool.{Bool, true, false, cond, _&&_, and-true, and-false}
-use mathlib.Core.Logic.{_⊎_, inl, inr, ⊎-elim}
-use mathlib.Core.List.{List}
+use mathlib.Core.Path.{_≡_, sym, _∙_, ap, ap₂, subst₂}
+use mathlib.Core.Bool.{Bool, true, false, _&&_, and-true, and-false}
 use Prim.Native.Nat.{ℕ, _+_, _-_, _*_, _/_, _%_, _≤_, _<_}
 use native.Mathlib.Nat.{add-assoc, mod-add-mod, div-lt-iff-lt-mul}
 use native.Mathlib.Decide.{decLt, ℕ-discrete}
@@ -16,9 +14,9 @@ use Rattle.frames.specs.Circle.{frameAt, indexOf}
 use Rattle.frames.specs.Digits.{bit}
 use Rattle.frames.proofs.Circle.{frame-below, index-frame}
 use Rattle.written.specs.Bits.{Written, writtenOf, Lent, placeOf, tagOf, tagged, boundOf, standing, effective, windowOf}
-use Rattle.written.specs.Steps.{Ordered, cleared, lowerBound, lowered}
+use Rattle.written.specs.Steps.{cleared, lowerBound, lowered}
 use Rattle.written.specs.Well.{WellBits}
-use Rattle.written.proofs.Lists.{rewrite-at, rewrite-length}
+use Rattle.frames.proofs.Lists.{rewrite-at, rewrite-length}
 use Rattle.written.proofs.Areas.{place-below, area-below}
 use Rattle.written.proofs.Windows.{window-small, window-bit}
 use Rattle.written.proofs.Setting.{tagged-tag, tagged-bit}
@@ -56,8 +54,8 @@ lower-test k j e n b few = go (ℕ-discrete e 65535)
     go (no p) =
         ap (ltb j) (lower-else k e p)
         ∙ elim (decLt (k + j) e) [
-          yes q ↦ lt-ltb j (e - k) (omega arith) ∙ sym (lt-ltb (k + j) e q)
-        | no q ↦ le-ltb j (e - k) (omega arith) ∙ sym (le-ltb (k + j) e (omega arith))
+          | yes q ↦ lt-ltb j (e - k) (omega arith) ∙ sym (lt-ltb (k + j) e q)
+          | no q ↦ le-ltb j (e - k) (omega arith) ∙ sym (le-ltb (k + j) e (omega arith))
         ]
 
 lower-order : (k a b : ℕ) → a ≤ b → b ≤ 65535 → lowerBound k a ≤ lowerBound k b
@@ -165,7 +163,7 @@ module _ (w : Written) (lent : Lent w) (k : ℕ) (below : k < w .frames) where
               frames-few = lent .frames-few;
               omf-below = frame-below (w .frames) (w .omf) (lent .omf-below) k;
               groups-long = omega (arith, groups-length, lent .groups-long);
-              history-long = omega (arith, history-length, lent .history-long)
+              history-long = omega (arith, history-length, lent .history-long);
             };
         tag-below = q .tag-below;
         tags = tags;
@@ -174,7 +172,7 @@ module _ (w : Written) (lent : Lent w) (k : ℕ) (below : k < w .frames) where
         ordered = λ t b.
             subst₂ (λ (x y : ℕ). x ≤ y) (sym (lowered-entry t (omega (arith, q .tag-below)))) (sym (lowered-entry (t + 1) (omega (arith, q .tag-below))))
             (lower-order k (getD (w .history) t 0) (getD (w .history) (t + 1) 0) (q .ordered t b) (few (t + 1)));
-        only-live = λ j l a b c. advanced-effective j l b c ∙ gone j l a c (decLt (k + j) (w .frames))
+        only-live = λ j l a b c. advanced-effective j l b c ∙ gone j l a c (decLt (k + j) (w .frames));
       }
     where
       groups-length : length (cleared (w .lines) (w .frames) (w .omf) k (w .groups)) ≡ length (w .groups)
@@ -191,9 +189,9 @@ module _ (w : Written) (lent : Lent w) (k : ℕ) (below : k < w .frames) where
           let inside : at / w .lines * 16 + p < w .frames = omega (arith, lent .frames-by, area, c) in
           let is : bit (keep at g) p ≡ true = sym (ap (λ (x : ℕ). bit x p) (cleared-group at b)) ∙ e in
           let kept =
-              sym (tagged-bit (tagOf g) _ p (window-small (w .frames) (w .omf) (at / w .lines) g k (w .frames)) c
-              ∙ window-bit (w .frames) (w .omf) (at / w .lines) g k (w .frames) (lent .omf-below) p inside c)
-              ∙ is
+          sym (tagged-bit (tagOf g) _ p (window-small (w .frames) (w .omf) (at / w .lines) g k (w .frames)) c
+          ∙ window-bit (w .frames) (w .omf) (at / w .lines) g k (w .frames) (lent .omf-below) p inside c)
+          ∙ is
           in
           let set = both-true (bit g p) _ kept .0 in
           omega (arith, ap tagOf (cleared-group at b), keep-tag at g, q .tags at p b c set)

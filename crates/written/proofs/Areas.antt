@@ -1,12 +1,12 @@
 -- Frames of one working area, by their indexes from OMF. Assumes nothing.
-use mathlib.Core.Path.{_≡_, refl, sym, _∙_, ap, ap₂}
-use mathlib.Core.Logic.{_⊎_, inl, inr, ⊎-elim}
-use Prim.Native.Nat.{ℕ, _+_, _-_, _*_, _/_, _%_, _≤_, _<_, min}
+use mathlib.Core.Path.{_≡_}
+use mathlib.Core.Logic.{⊎-elim}
+use Prim.Native.Nat.{ℕ, _+_, _-_, _*_, _/_, _%_, _≤_, _<_}
 use native.Mathlib.Nat.{mul-le-mul-right, suc-mul}
 use native.Mathlib.Omega.{arith}
-use Rattle.frames.specs.Circle.{frameAt, indexOf, Turn}
+use Rattle.frames.specs.Circle.{frameAt, Turn}
 use Rattle.frames.proofs.Circle.{frame-below, frame-cases, index-below}
-use Rattle.written.specs.Bits.{Written, placeOf, Lent, Asks, Near}
+use Rattle.written.specs.Bits.{Written, placeOf, Asks, Near}
 
 -- a step of d places down within the area
 module _ (n omf : ℕ) (h : omf < n) where
@@ -49,14 +49,18 @@ pub asks-near : (w : Written) (l i f : ℕ) → Asks w l i → f ≡ frameAt (w 
     → Near (w .lines) (f / 16) l × (placeOf (w .lines) (f / 16) l < lib.ListN.length (w .groups))
 asks-near w l i f a e =
     let q = a .lent in
-    let b : f < w .frames = omega (arith, e, frame-below (w .frames) (w .omf) (q .omf-below) i) in
-    (record {
-      lines-few = q .lines-few;
-      area-few = omega (arith, q .frames-few);
-      line-few = omega (arith, a .line-below, q .lines-few)
-    },
-    omega (arith, q .groups-long,
-    place-below (w .lines) (w .frames / 16) (f / 16) l (area-below (w .frames) f (q .frames-by) b) (a .line-below)))
+    let b : f < w .frames = omega (arith, e, frame-below (w .frames) (w .omf) (q .omf-below) i) in (
+      record {
+        lines-few = q .lines-few;
+        area-few = omega (arith, q .frames-few);
+        line-few = omega (arith, a .line-below, q .lines-few);
+      },
+      omega (
+        arith,
+        q .groups-long,
+        place-below (w .lines) (w .frames / 16) (f / 16) l (area-below (w .frames) f (q .frames-by) b) (a .line-below),
+      ),
+    )
 
 pub asks-turn : (w : Written) (l i : ℕ) → Asks w l i → Turn (w .frames) (w .omf) i
 asks-turn w l i a =

@@ -8,7 +8,7 @@ use native.Mathlib.Omega.{arith}
 use borrow.Author.Tests.{leb-true, le-leb, lt-leb, lt-ltb, le-ltb}
 use lib.Dec.{leb, ltb}
 use lib.ListN.{getD}
-use Rattle.rules.specs.Seen.{any, needs}
+use Rattle.rules.specs.Seen.{needs}
 use Rattle.rules.proofs.Count.{any-same, any-true, any-none, any-false, any-found}
 use Rattle.rules.proofs.Tests.{both-true}
 use Rattle.frames.specs.Circle.{frameAt}
@@ -98,7 +98,7 @@ run-is w l i end z g b up r a ez eg eb eu er =
         let area = up-area f (frameAt (w .frames) (w .omf) k) (k - i) e (omega arith) in
         let place : k + z % 16 - i ≡ frameAt (w .frames) (w .omf) k % 16 = omega (arith, up-place f (frameAt (w .frames) (w .omf) k) (k - i) e (omega arith), ez) in
         let group : g ≡ getD (w .groups) (placeOf (w .lines) (frameAt (w .frames) (w .omf) k / 16) l) 0 =
-            eg ∙ ap (λ (y : ℕ). getD (w .groups) (placeOf (w .lines) y l) 0) (ap (λ (y : ℕ). y / 16) ez ∙ sym area)
+        eg ∙ ap (λ (y : ℕ). getD (w .groups) (placeOf (w .lines) y l) 0) (ap (λ (y : ℕ). y / 16) ez ∙ sym area)
         in
         ap (λ (x : ℕ). standing g (k + z % 16 - i) k x) (eb .0)
         ∙ ap₂ (λ (x p : ℕ). standing x p k (boundOf (w .history) x)) group place
@@ -121,8 +121,8 @@ pub none-more : (w : Written) (l from i end up : ℕ) (r : Bool) → NoneIn w l 
 unfolding runHas
 none-more w l from i end up r h e f eu k a b =
     elim (decLt k i) [
-      yes c ↦ h k a c
-    | no c ↦ false-from i (i + upOf (w .frames) (w .omf) i end) (λ k. effective w k l) (sym e ∙ f) k (omega arith) (omega (arith, eu))
+      | yes c ↦ h k a c
+      | no c ↦ false-from i (i + upOf (w .frames) (w .omf) i end) (λ k. effective w k l) (sym e ∙ f) k (omega arith) (omega (arith, eu))
     ]
 
 -- and the lines of a block, one after the other.

@@ -1,4 +1,3 @@
-pub mod Lists
 pub mod Areas
 pub mod Runs
 pub mod Blocks
@@ -7,3 +6,4 @@ pub mod Setting
 pub mod Sweeping
 pub mod Rolling
 pub mod Advancing
+pub mod Keeping

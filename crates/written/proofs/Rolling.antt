@@ -1,8 +1,8 @@
 -- A rollback: of all effective bits just those of the kept frames stay, and the written bits stay well-formed. Assumes nothing.
-use mathlib.Core.Path.{_≡_, refl, sym, _∙_, ap, ap₂, subst}
+use mathlib.Core.Path.{_≡_, refl, sym, _∙_, ap, ap₂}
 use mathlib.Core.Bool.{Bool, true, false, cond, _&&_, and-true, and-false, and-assoc}
 use mathlib.Core.List.{List}
-use Prim.Native.Nat.{ℕ, _+_, _-_, _*_, _/_, _%_, _≤_, _<_, min}
+use Prim.Native.Nat.{ℕ, _+_, _*_, _/_, _%_, _≤_, _<_, min}
 use native.Mathlib.Decide.{decLt, ℕ-discrete}
 use native.Mathlib.Omega.{arith}
 use borrow.Author.Tests.{lt-ltb, le-ltb}
@@ -13,14 +13,12 @@ use lib.Seq.{getD-set-same, getD-set-other}
 use Rattle.frames.specs.Circle.{frameAt, indexOf}
 use Rattle.frames.specs.Digits.{bit}
 use Rattle.frames.proofs.Circle.{frame-below, index-frame}
-use Rattle.written.specs.Lists.{rewrite}
-use Rattle.written.specs.Bits.{Written, writtenOf, Lent, placeOf, tagOf, boundOf, standing, effective, windowOf}
+use Rattle.written.specs.Bits.{Written, writtenOf, Lent, placeOf, tagOf, boundOf, standing, effective}
 use Rattle.written.specs.Steps.{maskedOf, Ordered, entered, Entered, swept, nextTag, RolledBack}
 use Rattle.written.specs.Well.{WellBits}
-use Rattle.written.proofs.Lists.{rewrite-at, rewrite-length}
+use Rattle.frames.proofs.Lists.{rewrite-at, rewrite-length}
 use Rattle.written.proofs.Areas.{place-below, area-below}
 use Rattle.written.proofs.Windows.{window-small, window-bit}
-use Rattle.written.proofs.Setting.{index-of-place}
 
 ltb-min : (k a b : ℕ) → ltb k (min a b) ≡ (ltb k a && ltb k b)
 ltb-min k a b = go (decLt k a) (decLt k b)
@@ -134,17 +132,21 @@ module _ (w : Written) (tag kept live : ℕ) (q : WellBits w tag live) (groups h
   unfolding nextTag
   kept-case b =
       let t = lt-ltb tag 255 b in
-      let e : next ≡ tag + 1 = r .next-is ∙ ap (λ (z : Bool). cond z (tag + 1) 0) t in
-      (r .groups-is ∙ ap (λ (z : Bool). cond z (w .groups) (swept (last w tag kept live q (r .entry) (r .enters)))) t, e,
-      r .history-is ∙ ap (λ (n : ℕ). set (r .entry) n 65535) e)
+      let e : next ≡ tag + 1 = r .next-is ∙ ap (λ (z : Bool). cond z (tag + 1) 0) t in (
+        r .groups-is ∙ ap (λ (z : Bool). cond z (w .groups) (swept (last w tag kept live q (r .entry) (r .enters)))) t,
+        e,
+        r .history-is ∙ ap (λ (n : ℕ). set (r .entry) n 65535) e,
+      )
 
   swept-case : 255 ≤ tag → (groups ≡ swept (last w tag kept live q (r .entry) (r .enters))) × (next ≡ 0) × (history ≡ set (r .entry) 0 65535)
   unfolding nextTag
   swept-case b =
       let t = le-ltb tag 255 b in
-      let e : next ≡ 0 = r .next-is ∙ ap (λ (z : Bool). cond z (tag + 1) 0) t in
-      (r .groups-is ∙ ap (λ (z : Bool). cond z (w .groups) (swept (last w tag kept live q (r .entry) (r .enters)))) t, e,
-      r .history-is ∙ ap (λ (n : ℕ). set (r .entry) n 65535) e)
+      let e : next ≡ 0 = r .next-is ∙ ap (λ (z : Bool). cond z (tag + 1) 0) t in (
+        r .groups-is ∙ ap (λ (z : Bool). cond z (w .groups) (swept (last w tag kept live q (r .entry) (r .enters)))) t,
+        e,
+        r .history-is ∙ ap (λ (n : ℕ). set (r .entry) n 65535) e,
+      )
 
   pub rolled-effective : (k m : ℕ) → k < w .frames → m < w .lines → effective rolled k m ≡ (effective w k m && ltb k kept)
   unfolding effective
@@ -191,8 +193,8 @@ module _ (w : Written) (tag kept live : ℕ) (q : WellBits w tag live) (groups h
   unfolding swept
   groups-long =
       elim (decLt tag 255) [
-        yes room ↦ ap length (kept-case room .0)
-      | no full ↦ ap length (swept-case (omega arith) .0) ∙ rewrite-length _ (w .groups) (w .frames / 16 * w .lines)
+        | yes room ↦ ap length (kept-case room .0)
+        | no full ↦ ap length (swept-case (omega arith) .0) ∙ rewrite-length _ (w .groups) (w .frames / 16 * w .lines)
       ]
 
   next-below : next < 256
@@ -215,8 +217,8 @@ module _ (w : Written) (tag kept live : ℕ) (q : WellBits w tag live) (groups h
           more (yes e) =
               let d = kept-case room in
               let top : getD history (t + 1) 0 ≡ 65535 =
-                  ap₂ (λ (xs : List ℕ) (s : ℕ). getD xs (s + 1) 0) (d .2) e
-                  ∙ getD-set-same (r .entry) (tag + 1) 65535 0 (omega (arith, entry-long, q .lent .history-long))
+              ap₂ (λ (xs : List ℕ) (s : ℕ). getD xs (s + 1) 0) (d .2) e
+              ∙ getD-set-same (r .entry) (tag + 1) 65535 0 (omega (arith, entry-long, q .lent .history-long))
               in
               omega (arith, top, used t (omega arith) room)
           more (no n) =
@@ -235,7 +237,7 @@ module _ (w : Written) (tag kept live : ℕ) (q : WellBits w tag live) (groups h
               omf-below = q .lent .omf-below;
               groups-long = omega (arith, groups-long, q .lent .groups-long);
               history-long =
-                  omega (arith, ap length (r .history-is), length-set (r .entry) next 65535, entry-long, q .lent .history-long)
+                  omega (arith, ap length (r .history-is), length-set (r .entry) next 65535, entry-long, q .lent .history-long);
             };
         tag-below = next-below;
         tags = rolled-tags;
@@ -243,5 +245,5 @@ module _ (w : Written) (tag kept live : ℕ) (q : WellBits w tag live) (groups h
             ap (λ (xs : List ℕ). getD xs next 0) (r .history-is)
             ∙ getD-set-same (r .entry) next 65535 0 (omega (arith, next-below, entry-long, q .lent .history-long));
         ordered = rolled-ordered small;
-        only-live = λ k l a b c. rolled-effective k l b c ∙ (ap (λ (z : Bool). effective w k l && z) (le-ltb k kept a) ∙ and-false (effective w k l))
+        only-live = λ k l a b c. rolled-effective k l b c ∙ (ap (λ (z : Bool). effective w k l && z) (le-ltb k kept a) ∙ and-false (effective w k l));
       }

@@ -1,10 +1,10 @@
 -- Searching written bits: a run of one group, a working area, and area after area down from a start. Assumes nothing.
-use mathlib.Core.Path.{_≡_, refl, sym, _∙_, ap, ap₂, subst}
+use mathlib.Core.Path.{_≡_, refl, sym, _∙_, ap, ap₂}
 use mathlib.Core.Bool.{Bool, true, false, _&&_}
-use Prim.Native.Nat.{ℕ, _+_, _-_, _*_, _/_, _%_, _≤_, _<_, min}
+use Prim.Native.Nat.{ℕ, _+_, _-_, _/_, _%_, _≤_, _<_, min}
 use native.Mathlib.Decide.{decLe, decLt}
 use native.Mathlib.Omega.{arith}
-use borrow.Author.Tests.{leb-true, le-leb, lt-leb, lt-ltb, le-ltb, ltb-true}
+use borrow.Author.Tests.{leb-true, le-leb, lt-leb, lt-ltb, le-ltb}
 use lib.Dec.{leb, ltb}
 use lib.ListN.{getD}
 use Rattle.rules.proofs.Tests.{both-true}
@@ -116,7 +116,7 @@ module _ (w : Written) (l i : ℕ) (a : Asks w l i) where
       let same = down-area f (frameAt (w .frames) (w .omf) k) (i - k) d (omega arith) in
       let place : frameAt (w .frames) (w .omf) k % 16 ≡ k + f % 16 - i = omega (arith, down-place f (frameAt (w .frames) (w .omf) k) (i - k) d (omega arith)) in
       let group : getD (w .groups) (placeOf (w .lines) (frameAt (w .frames) (w .omf) k / 16) l) 0 ≡ g =
-          ap (λ (z : ℕ). getD (w .groups) (placeOf (w .lines) z l) 0) same ∙ sym eg
+      ap (λ (z : ℕ). getD (w .groups) (placeOf (w .lines) z l) 0) same ∙ sym eg
       in
       ap₂ (λ (x p : ℕ). standing x p k (boundOf (w .history) x)) group place
 

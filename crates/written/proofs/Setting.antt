@@ -1,21 +1,20 @@
 -- Setting a written bit: what the code has is the definition, and of all effective bits just the new one is added. Assumes nothing.
 use mathlib.Core.Path.{_≡_, refl, sym, _∙_, ap, ap₂}
-use mathlib.Core.Bool.{Bool, true, false, cond, _&&_, _||_, and-true, or-false, or-true}
-use mathlib.Core.Logic.{_≢_, inl, inr}
-use mathlib.Core.List.{List}
-use Prim.Native.Nat.{ℕ, _+_, _-_, _*_, _/_, _%_, _^_, _≤_, _<_}
+use mathlib.Core.Bool.{Bool, true, false, _&&_, _||_, and-true, or-false, or-true}
+use mathlib.Core.Logic.{_≢_}
+use Prim.Native.Nat.{ℕ, _+_, _*_, _/_, _%_, _<_}
 use native.Mathlib.Decide.{ℕ-discrete, decLt}
 use native.Mathlib.Omega.{arith}
-use borrow.Author.Tests.{eq-eqb, ne-eqb, lt-ltb, le-ltb}
+use borrow.Author.Tests.{eq-eqb, ne-eqb, lt-ltb}
 use lib.Arith.{digits-div, digits-mod}
 use lib.Dec.{eqb, ltb, leb·zero}
 use lib.ListN.{length, getD, set}
 use lib.Seq.{getD-set-same, getD-set-other}
 use Rattle.frames.specs.Circle.{frameAt, indexOf}
-use Rattle.frames.specs.Digits.{digit, bit, setAt}
+use Rattle.frames.specs.Digits.{bit, setAt}
 use Rattle.frames.proofs.Circle.{frame-below, index-frame}
-use Rattle.frames.proofs.Digits.{digit-below, digit-bit, bit-none, bit-one, set-under, set-own, set-over, set-small}
-use Rattle.written.specs.Bits.{Written, writtenOf, Lent, Asks, placeOf, tagOf, tagged, boundOf, standing, effective, windowOf}
+use Rattle.frames.proofs.Digits.{digit-below, digit-bit, bit-one, set-under, set-own, set-over, set-small}
+use Rattle.written.specs.Bits.{Written, writtenOf, Asks, placeOf, tagOf, tagged, boundOf, standing, effective, windowOf}
 use Rattle.written.specs.Steps.{AsksWindow, regrouped, withWritten}
 use Rattle.written.proofs.Areas.{asks-near, area-below}
 use Rattle.written.proofs.Windows.{window-small, window-bit}
@@ -31,7 +30,7 @@ module _ (w : Written) (l i : ℕ) (a : Asks w l i) where
         area-below = omega (arith, frame-below (w .frames) (w .omf) (a .lent .omf-below) i);
         frames-few = a .lent .frames-few;
         from-few = omega arith;
-        end-few = omega arith
+        end-few = omega arith;
       }
 
 pub set-told : (w : Written) (l i tag f at b r : ℕ) → f ≡ frameAt (w .frames) (w .omf) i → at ≡ placeOf (w .lines) (f / 16) l
@@ -126,7 +125,7 @@ module _ (w : Written) (tag l i : ℕ) (a : Asks w l i) (small : tag < 256) (ope
       go (yes p) =
           let same : frameAt n (w .omf) k ≡ f = omega (arith, area, p) in
           let index : k ≡ i =
-              sym (index-frame n (w .omf) (a .lent .omf-below) k b) ∙ (ap (indexOf n (w .omf)) same ∙ index-frame n (w .omf) (a .lent .omf-below) i (a .index-below))
+          sym (index-frame n (w .omf) (a .lent .omf-below) k b) ∙ (ap (indexOf n (w .omf)) same ∙ index-frame n (w .omf) (a .lent .omf-below) i (a .index-below))
           in
           ap₂ (λ (x y : Bool). x && y)
           (ap (bit new) p ∙ (tagged-bit tag (setAt masked (f % 16)) (f % 16) new-small (omega arith) ∙ bit-one (setAt masked (f % 16)) (f % 16) (set-own masked (f % 16)))) below

@@ -7,10 +7,10 @@ use native.Mathlib.Nat.{mul-le-mul, div-lt-iff-lt-mul}
 use native.Mathlib.Omega.{arith}
 use borrow.Author.Tests.{eq-eqb, ne-eqb, lt-ltb, le-ltb}
 use lib.ListN.{length, getD, set}
-use Rattle.written.specs.Lists.{rewrite}
-use Rattle.written.specs.Bits.{Written, writtenOf, Lent, tagOf, tagged, boundOf, windowOf}
-use Rattle.written.specs.Steps.{AsksWindow, maskedOf, Entered, entered, swept, cleared, lowerBound, lowered, nextTag, RolledBack}
-use Rattle.written.proofs.Lists.{rewrite-length, rewrite-past}
+use Rattle.frames.specs.Lists.{rewrite}
+use Rattle.written.specs.Bits.{Written, writtenOf, boundOf, windowOf}
+use Rattle.written.specs.Steps.{maskedOf, Entered, entered, swept, cleared, lowerBound, nextTag, RolledBack}
+use Rattle.frames.proofs.Lists.{rewrite-length, rewrite-past}
 
 -- the groups are few
 pub count-few : (lines frames : ℕ) → lines ≤ 4096 → frames ≤ 4096 → frames / 16 * lines ≤ 1048576
@@ -28,7 +28,7 @@ entered-told before now tag kept e =
     record {
       exact = λ o. e;
       long = ap length e ∙ rewrite-length (λ _ e. min e kept) before (tag + 1);
-      past = λ k h. ap (λ (xs : List ℕ). getD xs k 0) e ∙ rewrite-past (λ _ e. min e kept) before (tag + 1) k (omega arith)
+      past = λ k h. ap (λ (xs : List ℕ). getD xs k 0) e ∙ rewrite-past (λ _ e. min e kept) before (tag + 1) k (omega arith);
     }
 
 -- what a turn of the sweep stores
@@ -67,7 +67,7 @@ module _ (w : Written) (tag kept : ℕ) (entry : List ℕ) (h : Entered tag kept
         enters = h;
         next-is = sym (ap (λ (z : Bool). cond z (tag + 1) 0) t);
         groups-is = sym (ap (λ (z : Bool). cond z (w .groups) (swept (writtenOf (w .lines) (w .frames) (w .omf) (w .groups) entry))) t);
-        history-is = refl
+        history-is = refl;
       }
 
   pub rolled-swept : (groups : List ℕ) → 255 ≤ tag → groups ≡ swept (writtenOf (w .lines) (w .frames) (w .omf) (w .groups) entry)
@@ -80,5 +80,5 @@ module _ (w : Written) (tag kept : ℕ) (entry : List ℕ) (h : Entered tag kept
         enters = h;
         next-is = sym (ap (λ (z : Bool). cond z (tag + 1) 0) t);
         groups-is = e ∙ sym (ap (λ (z : Bool). cond z (w .groups) (swept (writtenOf (w .lines) (w .frames) (w .omf) (w .groups) entry))) t);
-        history-is = refl
+        history-is = refl;
       }

@@ -1,9 +1,9 @@
 -- The bits of a group whose index from OMF lies in a window, digit by digit. Assumes nothing.
-use mathlib.Core.Path.{_≡_, refl, sym, _∙_, ap, ap₂, subst}
+use mathlib.Core.Path.{_≡_, sym, _∙_, ap, ap₂, subst}
 use mathlib.Core.Bool.{Bool, false, _&&_, and-false, and-true}
 use mathlib.Core.Logic.{_⊎_, inl, inr, ⊎-elim}
 use Prim.Native.Nat.{ℕ, _+_, _-_, _*_, _/_, _%_, _^_, _≤_, _<_, min}
-use native.Mathlib.Nat.{mul-assoc, mul-mod-left, mul-div-cancel, add-comm, lt-of-mul-lt-mul-right, lt-of-lt-of-le}
+use native.Mathlib.Nat.{mul-assoc, mul-div-cancel, add-comm, lt-of-mul-lt-mul-right, lt-of-lt-of-le}
 use native.Mathlib.Decide.{decLe, decLt}
 use borrow.Author.Tests.{le-leb, lt-leb, lt-ltb, le-ltb}
 use lib.Dec.{leb, ltb}
@@ -62,11 +62,11 @@ module _ (n omf area : ℕ) (h : omf < n) where
     index-cases =
         ⊎-elim
         (λ e. ⊎-elim
-          (λ d. inl (omega (arith, e, d, index-below n omf h (area * 16 + q)), omega (arith, e, d)))
-          (λ d. absurd (omega (arith, e, d, index-below n omf h (area * 16 + q)))) there)
+        (λ d. inl (omega (arith, e, d, index-below n omf h (area * 16 + q)), omega (arith, e, d)))
+        (λ d. absurd (omega (arith, e, d, index-below n omf h (area * 16 + q)))) there)
         (λ e. ⊎-elim
-          (λ d. inr (omega (arith, e, d, index-below n omf h (area * 16)), omega (arith, e, d, index-below n omf h (area * 16))))
-          (λ d. inl (omega (arith, e, d, index-below n omf h (area * 16 + q)), omega (arith, e, d))) there)
+        (λ d. inr (omega (arith, e, d, index-below n omf h (area * 16)), omega (arith, e, d, index-below n omf h (area * 16))))
+        (λ d. inl (omega (arith, e, d, index-below n omf h (area * 16 + q)), omega (arith, e, d))) there)
         (index-reaches n (area * 16) omf (omega arith) h)
       where
         there : Rattle.rules.proofs.Circle.Reaches n omf ((area * 16 + q + n - omf) % n) (area * 16 + q)
@@ -148,7 +148,7 @@ module _ (n omf area g from end : ℕ) where
     window-out o =
         ⊎-elim
         (λ w. out-under g (s n omf area h) (u n omf area h) from end (native.Mathlib.Nat.min-le-left 16 _) q (w .0)
-          (⊎-elim (λ a. inl (omega (arith, w .1, a))) (λ a. inr (omega (arith, w .1, a))) o))
+        (⊎-elim (λ a. inl (omega (arith, w .1, a))) (λ a. inr (omega (arith, w .1, a))) o))
         (λ w. out-over g (s n omf area h) (u n omf area h) from end (native.Mathlib.Nat.min-le-left 16 _) q (x n omf area h q b c) (w .0) c (w .1) o)
         (index-cases n omf area h q b c)
 

@@ -1,4 +1,3 @@
-pub mod Lists
 pub mod Bits
 pub mod Steps
 pub mod Well

@@ -1,13 +1,13 @@
 -- What writing, a rollback and an advance leave in the groups and the history.
 use Prim.Native.Nat.{ℕ, _+_, _-_, _*_, _/_, _%_, _≤_, _<_, min}
 use mathlib.Core.Path.{_≡_}
-use mathlib.Core.Bool.{Bool, cond}
+use mathlib.Core.Bool.{cond}
 use mathlib.Core.List.{List}
 use lib.Dec.{eqb, ltb}
-use lib.ListN.{length, getD, set, drop}
+use lib.ListN.{length, getD, set}
 use Rattle.frames.specs.Circle.{frameAt}
 use Rattle.frames.specs.Digits.{setAt}
-use Rattle.written.specs.Lists.{rewrite}
+use Rattle.frames.specs.Lists.{rewrite}
 use Rattle.written.specs.Bits.{Written, writtenOf, placeOf, tagOf, tagged, boundOf, windowOf}
 
 -- The bits of a group that stand.
@@ -83,3 +83,13 @@ pub record AsksClear (lines frames omf k long : ℕ) : Type 0 where
   pub omf-below : omf < frames
   pub k-below : k < frames
   pub groups-long : frames / 16 * lines ≤ long
+
+-- RESET: "no written bits".
+unfoldable pub blanked : (lines frames : ℕ) → List ℕ → List ℕ
+blanked lines frames groups = rewrite (frames / 16 * lines) (λ _ g. 0) groups
+
+pub record AsksReset (lines frames groups-long history-long : ℕ) : Type 0 where
+  pub lines-few : lines ≤ 4096
+  pub frames-few : frames ≤ 4096
+  pub groups-enough : frames / 16 * lines ≤ groups-long
+  pub history-some : 0 < history-long

@@ -1,14 +1,14 @@
 // Written bits and the rollback history, in lent lists. Every function is safe on any contents of the lists; what the `requires` ask
 // of numbers and lengths is tested by the store, which alone calls them.
 use frames::Found;
-
 ghost use mathlib.Core.Path.{_≡_};
 ghost use Prim.Native.Nat.{_+_, _*_, _/_, _≤_, _<_, min};
+ghost use lib.ListN;
 ghost use lib.ListN.{length, getD};
 ghost use Rattle.frames.specs.Circle.{Turn};
 ghost use Rattle.written.specs.Bits.{writtenOf, Asks, Near, AsksBlock, tagOf, boundOf, placeOf, effective, newestFrom, newestRun, newestInArea, downOf, upOf, standsIn, runHas, blockHas};
 ghost use Rattle.written.specs.Bits.{Lent, tagged, beforeWrap, afterWrap, windowOf};
-ghost use Rattle.written.specs.Steps.{AsksWindow, AsksClear, regrouped, withWritten, Entered, swept, cleared, lowerBound, lowered, RolledBack};
+ghost use Rattle.written.specs.Steps.{AsksWindow, AsksClear, AsksReset, blanked, regrouped, withWritten, Entered, swept, cleared, lowerBound, lowered, RolledBack};
 ghost use Rattle.frames.specs.Digits.{setAt};
 ghost use Rattle.rules.specs.Seen.{needs};
 ghost use Rattle.frames.specs.Circle.{indexOf};
@@ -117,7 +117,10 @@ fn run_up(index: u32, end: u32, omf: u32, frames: u32) -> u32
     requires { ⌜ Turn frames omf index ⌝ }
     ensures { λ r. ⌜ r ≡ upOf frames omf index end ⌝ }
 {
-    frames::least(16 - frames::frame_at(index, omf, frames) % 16, frames::less(end, index))
+    frames::least(
+        16 - frames::frame_at(index, omf, frames) % 16,
+        frames::less(end, index),
+    )
 }
 
 // Whether a group has a standing bit among so many from a position up.
@@ -149,7 +152,13 @@ fn run_has(
     let frame = frames::frame_at(index, omf, frames);
     let group = group_at(groups, lines, frame / 16, line);
     let bound = bound_of(history, group);
-    stands_in(group, bound, frame % 16, index, run_up(index, end, omf, frames))
+    stands_in(
+        group,
+        bound,
+        frame % 16,
+        index,
+        run_up(index, end, omf, frames),
+    )
 }
 
 // Whether one of a block's eight lines has an effective bit in a window of indexes: left at the first such bit. Of each line one group
@@ -214,7 +223,11 @@ fn after_wrap(group: u32, u: u32, from: u32, end: u32) -> u32
     requires { ⌜ (u ≤ 16) × (from ≤ 65535) × (end ≤ 65535) ⌝ }
     ensures { λ r. ⌜ r ≡ afterWrap group u from end ⌝ }
 {
-    frames::range(group, frames::least(16, from + u), frames::least(16, end + u))
+    frames::range(
+        group,
+        frames::least(16, from + u),
+        frames::least(16, end + u),
+    )
 }
 
 // The bits of a group in an area whose index from OMF lies in a window.
@@ -370,4 +383,19 @@ pub fn advance(groups: &mut [u32], history: &mut [u16], lines: u32, frames: u32,
 {
     clear(groups, lines, frames, omf, wide(k));
     lower(history, k);
+}
+
+// No written bit, and a history with no rollback: what a reset leaves, whatever the lists held.
+pub fn reset(groups: &mut [u32], history: &mut [u16], lines: u32, frames: u32)
+    requires { ⌜ AsksReset lines frames (length (now groups)) (length (now history)) ⌝ }
+    ensures none { λ _. ⌜ now (groups .exit) ≡ blanked lines frames (now (groups .entry)) ⌝ }
+    ensures open { λ _. ⌜ now (history .exit) ≡ ListN.set (now (history .entry)) 0 65535 ⌝ }
+{
+    let count = frames / 16 * lines;
+    let mut at = 0;
+    while at < count {
+        groups[at as usize] = 0;
+        at = at + 1;
+    }
+    history[0] = 65535;
 }

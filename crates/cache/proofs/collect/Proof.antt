@@ -2,20 +2,21 @@
 use mathlib.Core.Path.{_≡_, refl}
 use Prim.Native.Nat.{_-_, _≤_}
 use Rattle.cache.proofs.Returns.{collected-done}
-use Rattle.cache.proofs.Changed.{changed-next}
-use Rattle.cache.specs.Steps.{changed, frameAfter}
+use Rattle.frames.proofs.Lists.{rewrite-next}
+use Rattle.frames.specs.Lists.{rewrite}
+use Rattle.cache.specs.Steps.{frameAfter}
 use borrow.Author.Needs.{needs}
 use Rattle.cache.proofs.collect.Statement.{statement}
 use Rattle.cache.proofs.collect.Tie as tie
 
 abbrev Inv-loop : tie.InvT-loop
-Inv-loop cache omf frames k held₀ i₀ held i = (i ≤ 32) × (held ≡ changed i (λ e frame. frameAfter omf frames k frame) held₀)
+Inv-loop cache omf frames k held₀ i₀ held i = (i ≤ 32) × (held ≡ rewrite i (λ e frame. frameAfter omf frames k frame) held₀)
 
 abbrev μ-loop : tie.MeasureT-loop
 μ-loop cache omf frames k held₀ i₀ held i = 32 - i
 
 loop-holds : tie.Need-loop-holds Inv-loop μ-loop
-unfolding changed
+unfolding rewrite
 loop-holds c = (search needs, refl)
 
 mul-frame-after : tie.Need-mul-frame-after Inv-loop μ-loop
@@ -40,7 +41,7 @@ loop-less : tie.Need-loop-less Inv-loop μ-loop
 loop-less c = search needs
 
 loop-again : tie.Need-loop-again Inv-loop μ-loop
-loop-again c = (search needs, changed-next _ _ _ _ _ (c .before .before .loop .inv .1) (c .frame-after .ensures))
+loop-again c = (search needs, rewrite-next _ _ _ _ _ (c .before .before .loop .inv .1) (c .frame-after .ensures))
 
 returns : tie.Need-returns Inv-loop μ-loop
 returns c = search collected-done

@@ -2,21 +2,22 @@
 use mathlib.Core.Path.{_≡_, refl}
 use Prim.Native.Nat.{_-_, _≤_}
 use Rattle.cache.proofs.Returns.{forgotten-done}
-use Rattle.cache.proofs.Changed.{changed-next}
+use Rattle.frames.proofs.Lists.{rewrite-next}
 use lib.ListN.{getD}
-use Rattle.cache.specs.Steps.{changed, flagAfter}
+use Rattle.frames.specs.Lists.{rewrite}
+use Rattle.cache.specs.Steps.{flagAfter}
 use borrow.Author.Needs.{needs}
 use Rattle.cache.proofs.forget.Statement.{statement}
 use Rattle.cache.proofs.forget.Tie as tie
 
 abbrev Inv-loop : tie.InvT-loop
-Inv-loop cache omf frames kept held valid₀ i₀ valid i = (i ≤ 32) × (valid ≡ changed i (λ e flag. flagAfter omf frames kept (getD held e 0) flag) valid₀)
+Inv-loop cache omf frames kept held valid₀ i₀ valid i = (i ≤ 32) × (valid ≡ rewrite i (λ e flag. flagAfter omf frames kept (getD held e 0) flag) valid₀)
 
 abbrev μ-loop : tie.MeasureT-loop
 μ-loop cache omf frames kept held valid₀ i₀ valid i = 32 - i
 
 loop-holds : tie.Need-loop-holds Inv-loop μ-loop
-unfolding changed
+unfolding rewrite
 loop-holds c = (search needs, refl)
 
 mul-flag-after : tie.Need-mul-flag-after Inv-loop μ-loop
@@ -41,7 +42,7 @@ loop-less : tie.Need-loop-less Inv-loop μ-loop
 loop-less c = search needs
 
 loop-again : tie.Need-loop-again Inv-loop μ-loop
-loop-again c = (search needs, changed-next _ _ _ _ _ (c .before .before .loop .inv .1) (c .flag-after .ensures))
+loop-again c = (search needs, rewrite-next _ _ _ _ _ (c .before .before .loop .inv .1) (c .flag-after .ensures))
 
 returns : tie.Need-returns Inv-loop μ-loop
 returns c = search forgotten-done

@@ -3,11 +3,6 @@ use Rattle.written.proofs.Sweeping.{cleared-told}
 use borrow.Author.Needs.{needs}
 use Rattle.written.proofs.advance.Statement.{statement}
 use Rattle.written.proofs.advance.Tie as tie
-use Rattle.written.proofs.advance.Reads as reads
-use Rattle.written.proofs.advance.Lts as lts
-use Rattle.written.proofs.clear.Reads as clear-reads
-use Rattle.written.proofs.lower.Reads as lower-reads
-use Rattle.written.proofs.wide.Reads as wide-reads
 
 wide-requires : tie.Need-wide-requires
 wide-requires c κs = search needs

@@ -3,10 +3,6 @@ use Rattle.written.specs.Bits.{afterWrap}
 use borrow.Author.Needs.{needs}
 use Rattle.written.proofs.after_wrap.Statement.{statement}
 use Rattle.written.proofs.after_wrap.Tie as tie
-use Rattle.written.proofs.after_wrap.Reads as reads
-use Rattle.written.proofs.after_wrap.Lts as lts
-use Rattle.frames.proofs.least.Reads as least-reads
-use Rattle.frames.proofs.range.Reads as range-reads
 
 add-least : tie.Need-add-least
 add-least c = search needs

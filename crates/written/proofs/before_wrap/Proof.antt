@@ -3,11 +3,6 @@ use Rattle.written.specs.Bits.{beforeWrap}
 use borrow.Author.Needs.{needs}
 use Rattle.written.proofs.before_wrap.Statement.{statement}
 use Rattle.written.proofs.before_wrap.Tie as tie
-use Rattle.written.proofs.before_wrap.Reads as reads
-use Rattle.written.proofs.before_wrap.Lts as lts
-use Rattle.frames.proofs.least.Reads as least-reads
-use Rattle.frames.proofs.less.Reads as less-reads
-use Rattle.frames.proofs.range.Reads as range-reads
 
 less-requires : tie.Need-less-requires
 less-requires c κs = search needs

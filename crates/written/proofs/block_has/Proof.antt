@@ -7,10 +7,6 @@ use Rattle.written.specs.Bits.{writtenOf}
 use Rattle.written.proofs.Blocks.{NoneIn, NoneBefore, up-some, none-more, lines-more, block-none, block-found}
 use Rattle.written.proofs.block_has.Statement.{statement}
 use Rattle.written.proofs.block_has.Tie as tie
-use Rattle.written.proofs.block_has.Reads as reads
-use Rattle.written.proofs.block_has.Lts as lts
-use Rattle.written.proofs.run_has.Reads as run-has-reads
-use Rattle.written.proofs.run_up.Reads as run-up-reads
 
 abbrev Inv-loop : tie.InvT-loop
 Inv-loop groups history lines frames omf block from end found₀ n i₀ found i =

@@ -4,13 +4,10 @@ use borrow.Author.Needs.{needs}
 use native.Mathlib.Omega.{arith}
 use Rattle.written.specs.Bits.{tagged, tagOf, windowOf}
 use Rattle.written.specs.Steps.{cleared}
-use Rattle.written.proofs.Lists.{Rewritten, rewrite-start, rewrite-more, rewrite-end}
+use Rattle.frames.proofs.Lists.{Rewritten, rewrite-start, rewrite-more, rewrite-end}
 use Rattle.written.proofs.Sweeping.{count-few, area-of-place}
 use Rattle.written.proofs.clear.Statement.{statement}
 use Rattle.written.proofs.clear.Tie as tie
-use Rattle.written.proofs.clear.Reads as reads
-use Rattle.written.proofs.clear.Lts as lts
-use Rattle.written.proofs.without.Reads as without-reads
 
 abbrev Inv-loop : tie.InvT-loop
 Inv-loop groups₀ lines frames omf k count at₀ groups at =
@@ -44,7 +41,7 @@ without-requires c κs =
       area-below = area-of-place _ _ _ (c .before .before .before .before .pre .lines-some) (c .before .loop-test .taken);
       frames-few = c .before .before .before .before .pre .frames-few;
       from-few = omega arith;
-      end-few = omega arith
+      end-few = omega arith;
     }
 
 mul-groups : tie.Need-mul-groups Inv-loop μ-loop

@@ -2,13 +2,10 @@
 use Prim.Native.Nat.{_-_, _≤_, min}
 use borrow.Author.Needs.{needs}
 use native.Mathlib.Omega.{arith}
-use Rattle.written.proofs.Lists.{Rewritten, rewrite-start, rewrite-more, rewrite-end}
+use Rattle.frames.proofs.Lists.{Rewritten, rewrite-start, rewrite-more, rewrite-end}
 use Rattle.written.proofs.Sweeping.{entered-told}
 use Rattle.written.proofs.enter.Statement.{statement}
 use Rattle.written.proofs.enter.Tie as tie
-use Rattle.written.proofs.enter.Reads as reads
-use Rattle.written.proofs.enter.Lts as lts
-use Rattle.written.proofs.deeper.Reads as deeper-reads
 
 abbrev Inv-loop : tie.InvT-loop
 Inv-loop history₀ tag kept used t₀ history t =

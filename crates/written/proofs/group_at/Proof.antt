@@ -5,9 +5,6 @@ use lib.ListN.{getD}
 use borrow.Author.Needs.{needs}
 use Rattle.written.proofs.group_at.Statement.{statement}
 use Rattle.written.proofs.group_at.Tie as tie
-use Rattle.written.proofs.group_at.Reads as reads
-use Rattle.written.proofs.group_at.Lts as lts
-use Rattle.written.proofs.place_of.Reads as place-of-reads
 
 place-of-requires : tie.Need-place-of-requires
 place-of-requires c κs = search needs

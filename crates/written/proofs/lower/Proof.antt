@@ -3,12 +3,9 @@ use Prim.Native.Nat.{_-_, _≤_}
 use borrow.Author.Needs.{needs}
 use native.Mathlib.Omega.{arith}
 use Rattle.written.specs.Steps.{lowerBound, lowered}
-use Rattle.written.proofs.Lists.{Rewritten, rewrite-start, rewrite-more, rewrite-end}
+use Rattle.frames.proofs.Lists.{Rewritten, rewrite-start, rewrite-more, rewrite-end}
 use Rattle.written.proofs.lower.Statement.{statement}
 use Rattle.written.proofs.lower.Tie as tie
-use Rattle.written.proofs.lower.Reads as reads
-use Rattle.written.proofs.lower.Lts as lts
-use Rattle.written.proofs.lower_bound.Reads as lower-bound-reads
 
 abbrev Inv-loop : tie.InvT-loop
 Inv-loop history₀ k t₀ history t = (t ≤ 256) × Rewritten t (λ _ e. lowerBound k e) history₀ history

@@ -3,8 +3,6 @@ use borrow.Author.Needs.{needs}
 use Rattle.written.proofs.Sweeping.{lower-open, lower-gone, lower-some}
 use Rattle.written.proofs.lower_bound.Statement.{statement}
 use Rattle.written.proofs.lower_bound.Tie as tie
-use Rattle.written.proofs.lower_bound.Reads as reads
-use Rattle.written.proofs.lower_bound.Lts as lts
 
 returns : tie.Need-returns
 returns c = search lower-open

@@ -5,10 +5,6 @@ use Rattle.written.proofs.Blocks.{one-frame}
 use borrow.Author.Needs.{needs}
 use Rattle.written.proofs.needed.Statement.{statement}
 use Rattle.written.proofs.needed.Tie as tie
-use Rattle.written.proofs.needed.Reads as reads
-use Rattle.written.proofs.needed.Lts as lts
-use Rattle.frames.proofs.index.Reads as index-reads
-use Rattle.written.proofs.block_has.Reads as block-has-reads
 
 index-requires : tie.Need-index-requires
 index-requires c κs = search needs
@@ -21,7 +17,7 @@ block-has-requires c κs =
     record {
       lent = c .before .before .before .pre .0 .lent;
       block-below = c .before .before .before .pre .0 .block-below;
-      end-within = omega (arith, index-below _ _ (c .before .before .before .pre .0 .lent .omf-below) (c .before .before .before .args .frame), c .index .ensures)
+      end-within = omega (arith, index-below _ _ (c .before .before .before .pre .0 .lent .omf-below) (c .before .before .before .args .frame), c .index .ensures);
     }
 
 returns : tie.Need-returns

@@ -4,12 +4,6 @@ use Rattle.written.proofs.Runs.{area-is}
 use borrow.Author.Needs.{needs}
 use Rattle.written.proofs.newest_in_area.Statement.{statement}
 use Rattle.written.proofs.newest_in_area.Tie as tie
-use Rattle.written.proofs.newest_in_area.Reads as reads
-use Rattle.written.proofs.newest_in_area.Lts as lts
-use Rattle.frames.proofs.frame_at.Reads as frame-at-reads
-use Rattle.written.proofs.bound_of.Reads as bound-of-reads
-use Rattle.written.proofs.group_at.Reads as group-at-reads
-use Rattle.written.proofs.newest_run.Reads as newest-run-reads
 
 frame-at-requires : tie.Need-frame-at-requires
 frame-at-requires c κs = search needs

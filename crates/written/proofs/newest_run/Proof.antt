@@ -1,15 +1,9 @@
 -- `written::newest_run` meets its contract. Assumes nothing.
-use Prim.Native.Nat.{_+_, _≤_}
 use native.Mathlib.Omega.{arith}
 use Rattle.written.proofs.Runs.{run-told-at, run-told-none, run-told-within}
 use borrow.Author.Needs.{needs}
 use Rattle.written.proofs.newest_run.Statement.{statement}
 use Rattle.written.proofs.newest_run.Tie as tie
-use Rattle.written.proofs.newest_run.Reads as reads
-use Rattle.written.proofs.newest_run.Lts as lts
-use Rattle.frames.proofs.least.Reads as least-reads
-use Rattle.frames.proofs.less.Reads as less-reads
-use Rattle.frames.proofs.newest_bit.Reads as newest-bit-reads
 
 least-requires : tie.Need-least-requires
 least-requires c κs = search needs

@@ -4,8 +4,6 @@ use native.Mathlib.Omega.{arith}
 use borrow.Author.Needs.{needs}
 use Rattle.written.proofs.place_of.Statement.{statement}
 use Rattle.written.proofs.place_of.Tie as tie
-use Rattle.written.proofs.place_of.Reads as reads
-use Rattle.written.proofs.place_of.Lts as lts
 
 mul-result : tie.Need-mul-result
 mul-result c = omega (arith, mul-le-mul (c .pre .area-few) (c .pre .lines-few))

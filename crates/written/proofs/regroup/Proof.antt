@@ -7,10 +7,6 @@ use Rattle.written.proofs.Windows.{window-small}
 use borrow.Author.Needs.{needs}
 use Rattle.written.proofs.regroup.Statement.{statement}
 use Rattle.written.proofs.regroup.Tie as tie
-use Rattle.written.proofs.regroup.Reads as reads
-use Rattle.written.proofs.regroup.Lts as lts
-use Rattle.frames.proofs.with_bit.Reads as with-bit-reads
-use Rattle.written.proofs.window.Reads as window-reads
 
 window-requires : tie.Need-window-requires
 window-requires c κs = search needs

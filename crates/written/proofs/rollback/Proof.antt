@@ -3,10 +3,6 @@ use Rattle.written.proofs.Sweeping.{rolled-next, rolled-swept}
 use borrow.Author.Needs.{needs}
 use Rattle.written.proofs.rollback.Statement.{statement}
 use Rattle.written.proofs.rollback.Tie as tie
-use Rattle.written.proofs.rollback.Reads as reads
-use Rattle.written.proofs.rollback.Lts as lts
-use Rattle.written.proofs.enter.Reads as enter-reads
-use Rattle.written.proofs.sweep.Reads as sweep-reads
 
 enter-requires : tie.Need-enter-requires
 enter-requires c κs = search needs

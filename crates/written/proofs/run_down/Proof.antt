@@ -3,10 +3,6 @@ use Rattle.written.specs.Bits.{downOf}
 use borrow.Author.Needs.{needs}
 use Rattle.written.proofs.run_down.Statement.{statement}
 use Rattle.written.proofs.run_down.Tie as tie
-use Rattle.written.proofs.run_down.Reads as reads
-use Rattle.written.proofs.run_down.Lts as lts
-use Rattle.frames.proofs.frame_at.Reads as frame-at-reads
-use Rattle.frames.proofs.least.Reads as least-reads
 
 frame-at-requires : tie.Need-frame-at-requires
 frame-at-requires c κs = search needs

@@ -5,13 +5,6 @@ use Rattle.written.proofs.Blocks.{up-fits, run-is}
 use borrow.Author.Needs.{needs}
 use Rattle.written.proofs.run_has.Statement.{statement}
 use Rattle.written.proofs.run_has.Tie as tie
-use Rattle.written.proofs.run_has.Reads as reads
-use Rattle.written.proofs.run_has.Lts as lts
-use Rattle.frames.proofs.frame_at.Reads as frame-at-reads
-use Rattle.written.proofs.bound_of.Reads as bound-of-reads
-use Rattle.written.proofs.group_at.Reads as group-at-reads
-use Rattle.written.proofs.run_up.Reads as run-up-reads
-use Rattle.written.proofs.stands_in.Reads as stands-in-reads
 
 frame-at-requires : tie.Need-frame-at-requires
 frame-at-requires c κs = search needs

@@ -3,11 +3,6 @@ use Rattle.written.specs.Bits.{upOf}
 use borrow.Author.Needs.{needs}
 use Rattle.written.proofs.run_up.Statement.{statement}
 use Rattle.written.proofs.run_up.Tie as tie
-use Rattle.written.proofs.run_up.Reads as reads
-use Rattle.written.proofs.run_up.Lts as lts
-use Rattle.frames.proofs.frame_at.Reads as frame-at-reads
-use Rattle.frames.proofs.least.Reads as least-reads
-use Rattle.frames.proofs.less.Reads as less-reads
 
 frame-at-requires : tie.Need-frame-at-requires
 frame-at-requires c κs = search needs

@@ -7,10 +7,6 @@ use Rattle.written.specs.Bits.{writtenOf, newestFrom}
 use Rattle.written.proofs.Runs.{from-at, from-none, from-again}
 use Rattle.written.proofs.search.Statement.{statement}
 use Rattle.written.proofs.search.Tie as tie
-use Rattle.written.proofs.search.Reads as reads
-use Rattle.written.proofs.search.Lts as lts
-use Rattle.written.proofs.newest_in_area.Reads as newest-in-area-reads
-use Rattle.written.proofs.run_down.Reads as run-down-reads
 
 abbrev Inv-loop : tie.InvT-loop
 Inv-loop groups history lines frames omf line start i₀ i =

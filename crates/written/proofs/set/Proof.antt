@@ -2,17 +2,10 @@
 use Prim.Native.Nat.{_<_}
 use lib.ListN.{length}
 use Rattle.written.proofs.Setting.{set-in, set-asks, set-told}
-use native.Mathlib.Omega.{arith}
 use Rattle.written.proofs.Areas.{asks-near}
 use borrow.Author.Needs.{needs}
 use Rattle.written.proofs.set.Statement.{statement}
 use Rattle.written.proofs.set.Tie as tie
-use Rattle.written.proofs.set.Reads as reads
-use Rattle.written.proofs.set.Lts as lts
-use Rattle.frames.proofs.frame_at.Reads as frame-at-reads
-use Rattle.written.proofs.bound_of.Reads as bound-of-reads
-use Rattle.written.proofs.place_of.Reads as place-of-reads
-use Rattle.written.proofs.regroup.Reads as regroup-reads
 
 frame-at-requires : tie.Need-frame-at-requires
 frame-at-requires c κs = search needs

@@ -3,11 +3,6 @@ use Rattle.written.proofs.Blocks.{stands-at, stands-none}
 use borrow.Author.Needs.{needs}
 use Rattle.written.proofs.stands_in.Statement.{statement}
 use Rattle.written.proofs.stands_in.Tie as tie
-use Rattle.written.proofs.stands_in.Reads as reads
-use Rattle.written.proofs.stands_in.Lts as lts
-use Rattle.frames.proofs.least.Reads as least-reads
-use Rattle.frames.proofs.less.Reads as less-reads
-use Rattle.frames.proofs.newest_bit.Reads as newest-bit-reads
 
 add-least : tie.Need-add-least
 add-least c = search needs

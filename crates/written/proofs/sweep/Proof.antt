@@ -3,14 +3,10 @@ use Prim.Native.Nat.{_-_, _/_, _≤_}
 use borrow.Author.Needs.{needs}
 use native.Mathlib.Omega.{arith}
 use Rattle.written.specs.Steps.{maskedOf, swept}
-use Rattle.written.proofs.Lists.{Rewritten, rewrite-start, rewrite-more, rewrite-end}
+use Rattle.frames.proofs.Lists.{Rewritten, rewrite-start, rewrite-more, rewrite-end}
 use Rattle.written.proofs.Sweeping.{count-few, area-of-place, masked-told}
 use Rattle.written.proofs.sweep.Statement.{statement}
 use Rattle.written.proofs.sweep.Tie as tie
-use Rattle.written.proofs.sweep.Reads as reads
-use Rattle.written.proofs.sweep.Lts as lts
-use Rattle.written.proofs.bound_of.Reads as bound-of-reads
-use Rattle.written.proofs.window.Reads as window-reads
 
 abbrev Inv-loop : tie.InvT-loop
 Inv-loop groups₀ history lines frames omf count at₀ groups at =
@@ -47,7 +43,7 @@ window-requires c κs =
       area-below = area-of-place _ _ _ (c .before .before .before .before .before .before .pre .lines-some) (c .before .before .loop-test .taken);
       frames-few = c .before .before .before .before .before .before .pre .frames-few;
       from-few = omega arith;
-      end-few = omega (arith, c .bound-of .ensures .1)
+      end-few = omega (arith, c .bound-of .ensures .1);
     }
 
 mul-groups : tie.Need-mul-groups Inv-loop μ-loop

@@ -6,12 +6,6 @@ use Rattle.written.proofs.Windows.{window-told, window-fits}
 use borrow.Author.Needs.{needs}
 use Rattle.written.proofs.window.Statement.{statement}
 use Rattle.written.proofs.window.Tie as tie
-use Rattle.written.proofs.window.Reads as reads
-use Rattle.written.proofs.window.Lts as lts
-use Rattle.frames.proofs.index.Reads as index-reads
-use Rattle.frames.proofs.least.Reads as least-reads
-use Rattle.written.proofs.after_wrap.Reads as after-wrap-reads
-use Rattle.written.proofs.before_wrap.Reads as before-wrap-reads
 
 mul-index : tie.Need-mul-index
 mul-index c = search needs

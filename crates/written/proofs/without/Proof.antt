@@ -4,9 +4,6 @@ use Rattle.written.proofs.Windows.{window-small}
 use borrow.Author.Needs.{needs}
 use Rattle.written.proofs.without.Statement.{statement}
 use Rattle.written.proofs.without.Tie as tie
-use Rattle.written.proofs.without.Reads as reads
-use Rattle.written.proofs.without.Lts as lts
-use Rattle.written.proofs.window.Reads as window-reads
 
 mul-result : tie.Need-mul-result
 mul-result c = search needs

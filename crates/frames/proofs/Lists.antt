@@ -7,7 +7,7 @@ use native.Mathlib.Decide.{ℕ-discrete}
 use native.Mathlib.Omega.{arith}
 use lib.ListN.{length, getD, set, length-set}
 use lib.Seq.{getD-set-same, getD-set-other}
-use Rattle.written.specs.Lists.{rewrite}
+use Rattle.frames.specs.Lists.{rewrite}
 
 module _ (f : ℕ → ℕ → ℕ) (xs : List ℕ) where
   pub rewrite-length : (n : ℕ) → length (rewrite n f xs) ≡ length xs
@@ -32,6 +32,14 @@ module _ (f : ℕ → ℕ → ℕ) (xs : List ℕ) where
           ∙ (getD-set-same (rewrite n f xs) n (f n (getD xs n 0)) 0 (omega (arith, rewrite-length n)) ∙ ap (λ (z : ℕ). f z (getD xs z 0)) (sym e))
       go (no d) ih = getD-set-other (rewrite n f xs) n k (f n (getD xs n 0)) 0 d ∙ ih d
 
+  -- one more element, in the form in which a loop has it
+  pub rewrite-next : (n : ℕ) (now : List ℕ) (v : ℕ) → now ≡ rewrite n f xs → v ≡ f n (getD now n 0) → set now n v ≡ rewrite (n + 1) f xs
+  unfolding rewrite
+  rewrite-next n now v e h =
+      ap₂ (λ (zs : List ℕ) (x : ℕ). set zs n x) e
+      (h ∙ ap (f n) (ap (λ (zs : List ℕ). getD zs n 0) e ∙ rewrite-past n n (omega arith)))
+      ∙ ap (λ (k : ℕ). rewrite k f xs) (sym (add-one n))
+
 -- The list of a loop that rewrites a list, at its n-th turn.
 pub record Rewritten (n : ℕ) (f : ℕ → ℕ → ℕ) (xs now : List ℕ) : Type 0 where
   pub long : length now ≡ length xs
@@ -43,15 +51,8 @@ rewrite-start f xs = record { long = refl; same = refl }
 
 pub rewrite-more : {f : ℕ → ℕ → ℕ} {xs now : List ℕ} {n : ℕ} (v : ℕ) → Rewritten n f xs now → v ≡ f n (getD now n 0)
     → Rewritten (n + 1) f xs (set now n v)
-unfolding rewrite
 rewrite-more {f} {xs} {now} {n} v h e =
-    let old : getD now n 0 ≡ getD xs n 0 = ap (λ (z : List ℕ). getD z n 0) (h .same) ∙ rewrite-past f xs n n (omega arith) in
-    record {
-      long = length-set now n v ∙ h .long;
-      same =
-          ap₂ (λ (z : List ℕ) (x : ℕ). set z n x) (h .same) (e ∙ ap (f n) old)
-          ∙ ap (λ (m : ℕ). rewrite m f xs) (sym (add-one n))
-    }
+    record { long = length-set now n v ∙ h .long; same = rewrite-next f xs n now v (h .same) e }
 
 -- and at its end.
 pub rewrite-end : {f : ℕ → ℕ → ℕ} {xs now : List ℕ} {n : ℕ} (count : ℕ) → Rewritten n f xs now → n ≤ count → count ≤ n → now ≡ rewrite count f xs

@@ -44,12 +44,12 @@ any-found (suc n) f e = go (f n) refl e (any-found n f)
     go true p e ih = (n, omega arith, p)
     go false p e ih = let h = ih e in (h .0, omega (arith, h .1), h .2)
 
-count-none : (n : ℕ) (f : ℕ → Bool) → ((i : ℕ) → f i ≡ false) → count n f ≡ 0
+pub count-none : (n : ℕ) (f : ℕ → Bool) → ((i : ℕ) → f i ≡ false) → count n f ≡ 0
 unfolding count
 count-none zero f h = refl
 count-none (suc n) f h = ap (λ (b : Bool). cond b (suc (count n f)) (count n f)) (h n) ∙ count-none n f h
 
-count-same : (n : ℕ) (f g : ℕ → Bool) → ((i : ℕ) → i < n → f i ≡ g i) → count n f ≡ count n g
+pub count-same : (n : ℕ) (f g : ℕ → Bool) → ((i : ℕ) → i < n → f i ≡ g i) → count n f ≡ count n g
 unfolding count
 count-same zero f g h = refl
 count-same (suc n) f g h =

@@ -1,17 +1,16 @@
 -- The one-to-one law between the pages held and the places needed, and what follows from it. The laws are over any table, owners and
 -- need. Assumes nothing.
-use mathlib.Core.Path.{_≡_, refl, sym, _∙_, ap, ap₂, subst}
-use mathlib.Core.Bool.{Bool, true, false, not, cond, _&&_, and-false}
-use mathlib.Core.Logic.{_≢_, _⊎_, inl, inr}
-use Prim.Native.Nat.{ℕ, zero, suc, _+_, _-_, _≤_, _<_}
+use mathlib.Core.Path.{_≡_, refl, sym, _∙_, ap, ap₂}
+use mathlib.Core.Bool.{Bool, true, false, cond, _&&_, and-false}
+use mathlib.Core.Logic.{_≢_}
+use Prim.Native.Nat.{ℕ, zero, suc, _<_}
 use native.Mathlib.Decide.{ℕ-discrete, decLt}
 use native.Mathlib.Omega.{arith}
-use borrow.Author.Tests.{lt-ltb, le-ltb, eq-eqb, ne-eqb, ltb-true, eqb-true}
+use borrow.Author.Tests.{lt-ltb, le-ltb, eq-eqb, ne-eqb}
 use lib.Dec.{ltb, eqb}
 use Rattle.rules.specs.Seen.{count}
 use Rattle.rules.proofs.Count.{count-same, count-none}
 use Rattle.pages.proofs.Giving.{count-le}
-use Rattle.rules.proofs.Tests.{both-true}
 use Rattle.pages.specs.Table.{held, Confirmed}
 
 -- one number more that passes is one more counted
@@ -90,7 +89,7 @@ module _ (need : ℕ → Bool) (pages : ℕ) (table owners : ℕ → ℕ) where
   -- As many pages are held as places are needed.
   pub held-count : (n : ℕ) → Confirmed need n pages table owners → count pages (held need n table owners) ≡ count n need
   unfolding count held
-  held-count zero h = count-none pages (held need zero table owners) none
+  held-count zero h = count-none pages (held need zero table owners) (λ p b. none p)
     where
       none : (p : ℕ) → held need zero table owners p ≡ false
       none p = ap (λ (t : Bool). t && backed p) (le-ltb (owners p) zero (omega arith))

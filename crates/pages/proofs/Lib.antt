@@ -1,2 +1,7 @@
-pub mod Holding
+pub mod Copying
+pub mod Places
+pub mod Values
 pub mod Giving
+pub mod Holding
+pub mod Claiming
+pub mod Counting

@@ -1,2 +1,3 @@
-// Pages of 8 lines: which page a frame's block has, which pages are held, and the lines in them.
+// Pages of 8 lines: which page a frame's block has and which pages are held (table), and the lines in them (lines).
+pub mod lines;
 pub mod table;

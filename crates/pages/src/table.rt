@@ -1,7 +1,6 @@
 // The page table and the owners, in lent lists. Every function is safe on any contents; what the `requires` ask of numbers and lengths is
 // tested by the store, which alone calls them.
 use frames::Found;
-
 ghost use mathlib.Core.Path.{_≡_};
 ghost use Prim.Native.Nat.{_-_, _≤_, _<_, min};
 ghost use mathlib.Core.Bool.{not, cond};
@@ -39,7 +38,15 @@ pub fn is_held(
     if wide(table[owner as usize]) != page {
         return false;
     }
-    written::needed(groups, history, lines, frames, omf, owner / blocks, owner % blocks)
+    written::needed(
+        groups,
+        history,
+        lines,
+        frames,
+        omf,
+        owner / blocks,
+        owner % blocks,
+    )
 }
 
 // The first page from one number on and below another that is not held.
@@ -83,7 +90,17 @@ pub fn give(
     ensures { λ r. ⌜ r ≡ given pages (min hint pages) (heldAt (writtenOf lines frames omf (now (groups .entry)) (now (history .entry))) (now (table .entry)) (now (owners .entry))) ⌝ }
 {
     let start = frames::least(hint, pages);
-    match free_from(groups, history, table, owners, lines, frames, omf, start, pages) {
+    match free_from(
+        groups,
+        history,
+        table,
+        owners,
+        lines,
+        frames,
+        omf,
+        start,
+        pages,
+    ) {
         Found::At(p) => Found::At(p),
         Found::Nothing => free_from(groups, history, table, owners, lines, frames, omf, 0, start),
     }

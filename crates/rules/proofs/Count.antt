@@ -44,10 +44,11 @@ any-found (suc n) f e = go (f n) refl e (any-found n f)
     go true p e ih = (n, omega arith, p)
     go false p e ih = let h = ih e in (h .0, omega (arith, h .1), h .2)
 
-pub count-none : (n : ℕ) (f : ℕ → Bool) → ((i : ℕ) → f i ≡ false) → count n f ≡ 0
+pub count-none : (n : ℕ) (f : ℕ → Bool) → ((i : ℕ) → i < n → f i ≡ false) → count n f ≡ 0
 unfolding count
 count-none zero f h = refl
-count-none (suc n) f h = ap (λ (b : Bool). cond b (suc (count n f)) (count n f)) (h n) ∙ count-none n f h
+count-none (suc n) f h =
+    ap (λ (b : Bool). cond b (suc (count n f)) (count n f)) (h n (omega arith)) ∙ count-none n f (λ i b. h i (omega arith))
 
 pub count-same : (n : ℕ) (f g : ℕ → Bool) → ((i : ℕ) → i < n → f i ≡ g i) → count n f ≡ count n g
 unfolding count
@@ -86,7 +87,7 @@ unfolding needs
 needs-none row h b = any-none 8 _ (λ i c. h (b * 8 + i))
 
 pub blocks-none : (n : ℕ) (row : ℕ → Bool) → ((l : ℕ) → row l ≡ false) → count n (needs row) ≡ 0
-blocks-none n row h = count-none n (needs row) (needs-none row h)
+blocks-none n row h = count-none n (needs row) (λ b c. needs-none row h b)
 
 -- One more line written: its block is needed, and no other block changes.
 module _ (row more : ℕ → Bool) (l : ℕ) (now : more l ≡ true) (rest : (k : ℕ) → k ≢ l → row k ≡ more k) where

@@ -9,10 +9,6 @@ use Rattle.pages.specs.Table.{heldAt}
 use Rattle.pages.proofs.Giving.{count-next, count-end, count-few}
 use Rattle.pages.proofs.table.count_held.Statement.{statement}
 use Rattle.pages.proofs.table.count_held.Tie as tie
-use Rattle.pages.proofs.table.count_held.Reads as reads
-use Rattle.pages.proofs.table.count_held.Lts as lts
-use Rattle.pages.proofs.table.is_held.Reads as is-held-reads
-use Rattle.pages.proofs.table.one.Reads as one-reads
 
 abbrev Inv-loop : tie.InvT-loop
 Inv-loop groups history table owners lines frames omf pages n₀ p₀ n p = (p ≤ pages) × (n ≡ count p (heldAt (writtenOf lines frames omf groups history) table owners))

@@ -8,9 +8,6 @@ use Rattle.pages.specs.Table.{heldAt, smallest}
 use Rattle.pages.proofs.Giving.{free-here, free-next, free-end}
 use Rattle.pages.proofs.table.free_from.Statement.{statement}
 use Rattle.pages.proofs.table.free_from.Tie as tie
-use Rattle.pages.proofs.table.free_from.Reads as reads
-use Rattle.pages.proofs.table.free_from.Lts as lts
-use Rattle.pages.proofs.table.is_held.Reads as is-held-reads
 
 abbrev Inv-loop : tie.InvT-loop
 Inv-loop groups history table owners lines frames omf from end p₀ p =

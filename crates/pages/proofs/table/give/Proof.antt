@@ -3,10 +3,6 @@ use Rattle.pages.proofs.Giving.{given-first, given-second}
 use borrow.Author.Needs.{needs}
 use Rattle.pages.proofs.table.give.Statement.{statement}
 use Rattle.pages.proofs.table.give.Tie as tie
-use Rattle.pages.proofs.table.give.Reads as reads
-use Rattle.pages.proofs.table.give.Lts as lts
-use Rattle.frames.proofs.least.Reads as least-reads
-use Rattle.pages.proofs.table.free_from.Reads as free-from-reads
 
 least-requires : tie.Need-least-requires
 least-requires c κs = search needs

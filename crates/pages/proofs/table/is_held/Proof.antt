@@ -4,10 +4,6 @@ use Rattle.pages.proofs.Giving.{places-few, held-far, held-other, held-
 use borrow.Author.Needs.{needs}
 use Rattle.pages.proofs.table.is_held.Statement.{statement}
 use Rattle.pages.proofs.table.is_held.Tie as tie
-use Rattle.pages.proofs.table.is_held.Reads as reads
-use Rattle.pages.proofs.table.is_held.Lts as lts
-use Rattle.pages.proofs.table.wide.Reads as wide-reads
-use Rattle.written.proofs.needed.Reads as needed-reads
 
 mul-owner : tie.Need-mul-owner
 mul-owner c = search needs

@@ -1,0 +1,59 @@
+-- Lines in lists of bytes: in a part, in the pool and in the archive.
+use Prim.Native.Nat.{ℕ, _+_, _*_, _≤_, _<_}
+use mathlib.Core.List.{List}
+use lib.ListN.{take, drop}
+use lib.Seq.{paste}
+use Rattle.rules.specs.Line.{Line, blockOf}
+
+-- "L lines of 16 bytes": the line that starts at a byte.
+unfoldable pub lineAt : (bytes : List ℕ) (at : ℕ) → Line
+lineAt bytes at = take 16 (drop at bytes)
+
+-- "its most recent version is copied there": the bytes with a line copied there.
+unfoldable pub pasteLine : (bytes : List ℕ) (at : ℕ) → Line → List ℕ
+pasteLine bytes at x = paste bytes at x 16
+
+-- "A page holds 8 neighbouring lines": the line in a slot of the page that a part starts with.
+abbrev pub lineIn : (part : List ℕ) (slot : ℕ) → Line
+lineIn part slot = lineAt part (16 * slot)
+
+-- "The pool's part starting at a page's first byte is handed on to the line reader and copier": what the copier leaves in the part.
+abbrev pub withLine : (part : List ℕ) (slot : ℕ) → Line → List ℕ
+withLine part slot x = pasteLine part (16 * slot) x
+
+-- "P data pages of 128 bytes": the line in a slot of a page of the pool.
+abbrev pub pageLine : (pool : List ℕ) (page slot : ℕ) → Line
+pageLine pool page slot = lineAt pool (128 * page + 16 * slot)
+
+-- "the pool of 128 × P bytes": the pool with a line copied to a slot of a page.
+abbrev pub withPageLine : (pool : List ℕ) (page slot : ℕ) → Line → List ℕ
+withPageLine pool page slot x = pasteLine pool (128 * page + 16 * slot) x
+
+-- "The archive is a lent memory of 16 × L bytes": a line of it.
+abbrev pub archiveLine : (archive : List ℕ) (line : ℕ) → Line
+archiveLine archive line = lineAt archive (16 * line)
+
+-- "folds the k oldest frames into the archive": the archive with a content copied to a line of it.
+abbrev pub withArchiveLine : (archive : List ℕ) (line : ℕ) → Line → List ℕ
+withArchiveLine archive line x = pasteLine archive (16 * line) x
+
+-- What is asked of a slot and the length of a part: "pages of 128 bytes".
+pub record AsksSlot (slot long : ℕ) : Type 0 where
+  pub slot-below : slot < 8
+  pub room : 128 ≤ long
+
+-- What is asked of a page and the length of the pool: "P is 1 to 4,096".
+pub record AsksPage (page slot long : ℕ) : Type 0 where
+  pub page-few : page < 4096
+  pub slot-below : slot < 8
+  pub room : 128 * page + 128 ≤ long
+
+-- What is asked of a line and the length of the archive, which has whole blocks: "L is a multiple of 8 from 8 to 4,096".
+pub record AsksBlock (line long : ℕ) : Type 0 where
+  pub line-few : line < 4096
+  pub room : 128 * blockOf line + 128 ≤ long
+
+-- What is asked of the bytes of a value: "width is 1, 2 or 4 bytes", and they lie in one line.
+pub record AsksBytes (width offset : ℕ) : Type 0 where
+  pub width-few : width ≤ 4
+  pub inside : offset + width ≤ 16

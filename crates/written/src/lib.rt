@@ -5,13 +5,10 @@ ghost use mathlib.Core.Path.{_≡_};
 ghost use Prim.Native.Nat.{_+_, _*_, _/_, _≤_, _<_, min};
 ghost use lib.ListN;
 ghost use lib.ListN.{length, getD};
-ghost use Rattle.frames.specs.Circle.{Turn};
-ghost use Rattle.written.specs.Bits.{writtenOf, Asks, Near, AsksBlock, tagOf, boundOf, placeOf, effective, newestFrom, newestRun, newestInArea, downOf, upOf, standsIn, runHas, blockHas};
-ghost use Rattle.written.specs.Bits.{Lent, tagged, beforeWrap, afterWrap, windowOf};
-ghost use Rattle.written.specs.Steps.{AsksWindow, AsksClear, AsksReset, blanked, regrouped, withWritten, Entered, swept, cleared, lowerBound, lowered, RolledBack};
-ghost use Rattle.frames.specs.Digits.{setAt};
 ghost use Rattle.rules.specs.Seen.{needs};
-ghost use Rattle.frames.specs.Circle.{indexOf};
+ghost use Rattle.frames.specs.Circle.{Turn, indexOf};
+ghost use Rattle.written.specs.Bits.{writtenOf, Lent, Asks, AsksBlock, Near, placeOf, tagOf, tagged, boundOf, effective, newestFrom, newestRun, newestInArea, downOf, upOf, standsIn, runHas, blockHas, beforeWrap, afterWrap, windowOf};
+ghost use Rattle.written.specs.Steps.{AsksWindow, AsksClear, AsksReset, regrouped, withWritten, Entered, swept, cleared, lowerBound, lowered, RolledBack, blanked};
 
 // Where the group of a line in a working area stands.
 fn place_of(lines: u32, area: u32, line: u32) -> usize
@@ -274,7 +271,10 @@ pub fn set(
 fn deeper(bound: u16, kept: u16) -> u16
     ensures { λ r. ⌜ r ≡ min bound kept ⌝ }
 {
-    if kept < bound { kept } else { bound }
+    if kept < bound {
+        return kept;
+    }
+    bound
 }
 
 // Enters a rollback that keeps so many frames in the history: every used entry is compared.

@@ -1,8 +1,9 @@
 -- An advance: the effective bits keep their frames, whose indexes go down with OMF, and the collected frames have none. Assumes nothing.
 use mathlib.Core.Path.{_≡_, sym, _∙_, ap, ap₂, subst₂}
 use mathlib.Core.Bool.{Bool, true, false, _&&_, and-true, and-false}
-use Prim.Native.Nat.{ℕ, _+_, _-_, _*_, _/_, _%_, _≤_, _<_}
-use native.Mathlib.Nat.{add-assoc, mod-add-mod, div-lt-iff-lt-mul}
+use mathlib.Core.List.{List}
+use Prim.Native.Nat.{ℕ, zero, suc, _+_, _-_, _*_, _/_, _%_, _≤_, _<_}
+use native.Mathlib.Nat.{add-zero, add-assoc, mod-add-mod, div-lt-iff-lt-mul}
 use native.Mathlib.Decide.{decLt, ℕ-discrete}
 use native.Mathlib.Omega.{arith}
 use borrow.Author.Tests.{lt-ltb, le-ltb, le-leb, lt-leb}
@@ -14,7 +15,7 @@ use Rattle.frames.specs.Circle.{frameAt, indexOf}
 use Rattle.frames.specs.Digits.{bit}
 use Rattle.frames.proofs.Circle.{frame-below, index-frame}
 use Rattle.written.specs.Bits.{Written, writtenOf, Lent, placeOf, tagOf, tagged, boundOf, standing, effective, windowOf}
-use Rattle.written.specs.Steps.{cleared, lowerBound, lowered}
+use Rattle.written.specs.Steps.{Ordered, cleared, lowerBound, lowered}
 use Rattle.written.specs.Well.{WellBits}
 use Rattle.frames.proofs.Lists.{rewrite-at, rewrite-length}
 use Rattle.written.proofs.Areas.{place-below, area-below}
@@ -66,6 +67,14 @@ lower-order k a b h few = go (ℕ-discrete a 65535) (ℕ-discrete b 65535)
     go (yes p) (no q) = absurd (omega arith)
     go (no p) (yes q) = omega (arith, lower-else k a p, lower-open k b q)
     go (no p) (no q) = omega (arith, lower-else k a p, lower-else k b q)
+
+-- entries in order are at most the newest one
+few-from : (tag : ℕ) (history : List ℕ) → Ordered tag history → getD history tag 0 ≡ 65535 → (t : ℕ) → t ≤ tag → getD history t 0 ≤ 65535
+few-from tag history o e t b = up (tag - t) t (omega arith)
+  where
+    up : (d t : ℕ) → t + d ≡ tag → getD history t 0 ≤ 65535
+    up zero t c = omega (arith, e, ap (λ (z : ℕ). getD history z 0) (sym (add-zero t) ∙ c))
+    up (suc d) t c = omega (arith, o t (omega arith), up d (t + 1) (omega arith))
 
 module _ (w : Written) (lent : Lent w) (k : ℕ) (below : k < w .frames) where
   abbrev pub advanced : Written
@@ -152,8 +161,8 @@ module _ (w : Written) (lent : Lent w) (k : ℕ) (below : k < w .frames) where
             ∙ sym (ap (λ (t : Bool). t && effective w (k + j) m) (le-ltb (k + j) (w .frames) (omega arith))))
 
   -- and the written bits stay well-formed.
-  pub advanced-well : (tag live : ℕ) → WellBits w tag live → ((t : ℕ) → getD (w .history) t 0 ≤ 65535) → WellBits advanced tag (live - k)
-  advanced-well tag live q few =
+  pub advanced-well : (tag live : ℕ) → WellBits w tag live → WellBits advanced tag (live - k)
+  advanced-well tag live q =
       record {
         lent =
             record {
@@ -171,10 +180,14 @@ module _ (w : Written) (lent : Lent w) (k : ℕ) (below : k < w .frames) where
             lowered-entry tag (q .tag-below) ∙ (sym (lower-open k (getD (w .history) tag 0) (q .open-tag)) ∙ q .open-tag);
         ordered = λ t b.
             subst₂ (λ (x y : ℕ). x ≤ y) (sym (lowered-entry t (omega (arith, q .tag-below)))) (sym (lowered-entry (t + 1) (omega (arith, q .tag-below))))
-            (lower-order k (getD (w .history) t 0) (getD (w .history) (t + 1) 0) (q .ordered t b) (few (t + 1)));
+            (lower-order k (getD (w .history) t 0) (getD (w .history) (t + 1) 0) (q .ordered t b) (few (t + 1) (omega arith)));
         only-live = λ j l a b c. advanced-effective j l b c ∙ gone j l a c (decLt (k + j) (w .frames));
       }
     where
+      -- no used entry is above the current tag's
+      few : (t : ℕ) → t ≤ tag → getD (w .history) t 0 ≤ 65535
+      few t b = few-from tag (w .history) (q .ordered) (q .open-tag) t b
+
       groups-length : length (cleared (w .lines) (w .frames) (w .omf) k (w .groups)) ≡ length (w .groups)
       groups-length = cleared-length
 

@@ -4,8 +4,8 @@ use mathlib.Core.Logic.{⊎-elim}
 use Prim.Native.Nat.{ℕ, _+_, _-_, _*_, _/_, _%_, _≤_, _<_}
 use native.Mathlib.Nat.{mul-le-mul-right, suc-mul}
 use native.Mathlib.Omega.{arith}
-use Rattle.frames.specs.Circle.{frameAt, Turn}
-use Rattle.frames.proofs.Circle.{frame-below, frame-cases, index-below}
+use Rattle.frames.specs.Circle.{frameAt}
+use Rattle.frames.proofs.Circle.{frame-below, frame-cases}
 use Rattle.written.specs.Bits.{Written, placeOf, Asks, Near}
 
 -- a step of d places down within the area
@@ -61,7 +61,3 @@ asks-near w l i f a e =
         place-below (w .lines) (w .frames / 16) (f / 16) l (area-below (w .frames) f (q .frames-by) b) (a .line-below),
       ),
     )
-
-pub asks-turn : (w : Written) (l i : ℕ) → Asks w l i → Turn (w .frames) (w .omf) i
-asks-turn w l i a =
-    record { omf-below = a .lent .omf-below; below = a .index-below; few = omega (arith, a .lent .frames-few) }

@@ -18,16 +18,16 @@ use Rattle.frames.specs.declared.Found.the-variants.{At, Nothing}
 use Rattle.frames.proofs.Search.{greatest-nothing, greatest-found}
 use Rattle.written.specs.Bits.{Written, Asks, placeOf, boundOf, standing, effective, anyFrom, standsIn, runHas, blockHas, upOf}
 use Rattle.written.proofs.Areas.{frame-up, up-area, up-place}
-use Rattle.written.proofs.Runs.{and-false, and-true}
+use Rattle.written.proofs.Runs.{none-of, both-of}
 
 -- A window with and without a number that passes.
 pub from-true : (from end k : ℕ) (f : ℕ → Bool) → from ≤ k → k < end → f k ≡ true → anyFrom from end f ≡ true
 unfolding anyFrom
-from-true from end k f a b e = any-true end (λ i. leb from i && f i) k b (and-true (leb from k) (f k) (le-leb from k a) e)
+from-true from end k f a b e = any-true end (λ i. leb from i && f i) k b (both-of (leb from k) (f k) (le-leb from k a) e)
 
 pub from-false : (from end : ℕ) (f : ℕ → Bool) → ((k : ℕ) → from ≤ k → k < end → f k ≡ false) → anyFrom from end f ≡ false
 unfolding anyFrom
-from-false from end f h = any-none end (λ i. leb from i && f i) (λ k b. and-false (leb from k) (f k) (λ a. h k (leb-true from k a) b))
+from-false from end f h = any-none end (λ i. leb from i && f i) (λ k b. none-of (leb from k) (f k) (λ a. h k (leb-true from k a) b))
 
 pub false-from : (from end : ℕ) (f : ℕ → Bool) → anyFrom from end f ≡ false → (k : ℕ) → from ≤ k → k < end → f k ≡ false
 unfolding anyFrom
@@ -63,7 +63,7 @@ module _ (g bound p i up m t : ℕ) (r : Found) where
       let k : ℕ = i + q - p in
       let back : k + p - i ≡ q = omega arith in
       sym (from-true i (i + up) k (λ k. standing g (k + p - i) k bound) (omega arith) (omega arith)
-      (and-true _ _ (ap (bit g) back ∙ w .1) (lt-ltb k bound (omega arith))))
+      (both-of _ _ (ap (bit g) back ∙ w .1) (lt-ltb k bound (omega arith))))
 
   pub stands-none : m ≡ bound + p - i → t ≡ min (p + up) m → r ≡ newestBit g p t → r ≡ Nothing → false ≡ standsIn g bound p i up
   unfolding newestBit standsIn standing
@@ -78,7 +78,7 @@ module _ (g bound p i up m t : ℕ) (r : Found) where
           let under-bound : q < m = omega arith in
           let nothing = greatest-nothing t (λ q. leb p q && bit g q) (sym e ∙ h) q (omega (arith, et, under, under-bound)) in
           ap (λ (z : Bool). z && ltb k bound) (sym (ap (λ (z : Bool). z && bit g q) (le-leb p q over)) ∙ nothing)
-      none k a b (no d) = and-false (bit g (k + p - i)) (ltb k bound) (λ z. le-ltb k bound (omega arith))
+      none k a b (no d) = none-of (bit g (k + p - i)) (ltb k bound) (λ z. le-ltb k bound (omega arith))
 
 -- A working area from an index up.
 pub run-is : (w : Written) (l i end z g b up : ℕ) (r : Bool) → Asks w l i × (end ≤ w .frames) → z ≡ frameAt (w .frames) (w .omf) i

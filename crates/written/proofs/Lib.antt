@@ -7,3 +7,4 @@ pub mod Sweeping
 pub mod Rolling
 pub mod Advancing
 pub mod Keeping
+pub mod Finding

@@ -17,12 +17,12 @@ use Rattle.frames.proofs.Search.{greatest-none, greatest-at, greatest-same, gre
 use Rattle.written.specs.Bits.{Written, Asks, placeOf, boundOf, standing, effective, newestRun, newestInArea, newestFrom, downOf}
 use Rattle.written.proofs.Areas.{frame-down, down-area, down-place}
 
-pub and-false : (a b : Bool) → (a ≡ true → b ≡ false) → (a && b) ≡ false
-and-false true b h = h refl
-and-false false b h = refl
+pub none-of : (a b : Bool) → (a ≡ true → b ≡ false) → (a && b) ≡ false
+none-of true b h = h refl
+none-of false b h = refl
 
-pub and-true : (a b : Bool) → a ≡ true → b ≡ true → (a && b) ≡ true
-and-true a b p q = ap₂ (λ (x y : Bool). x && y) p q
+pub both-of : (a b : Bool) → a ≡ true → b ≡ true → (a && b) ≡ true
+both-of a b p q = ap₂ (λ (x y : Bool). x && y) p q
 
 lt-min : (x a b : ℕ) → x < a → x < b → x < min a b
 lt-min x a b h k = omega arith
@@ -44,14 +44,14 @@ module _ (g bound p i l m t : ℕ) (el : l ≡ min p i) (em : m ≡ bound + p - 
   unfolding newestBit newestRun standing
   run-none e =
       greatest-none (i + 1) (λ k. leb (i - min p i) k && standing g (k + p - i) k bound)
-      (λ k b. and-false (leb (i - min p i) k) _ (λ a. stands k b (leb-true (i - min p i) k a) (decLt k bound)))
+      (λ k b. none-of (leb (i - min p i) k) _ (λ a. stands k b (leb-true (i - min p i) k a) (decLt k bound)))
     where
       stands : (k : ℕ) → k < i + 1 → i - min p i ≤ k → Dec (k < bound) → (bit g (k + p - i) && ltb k bound) ≡ false
       stands k b a (yes h) =
           let q : ℕ = k + p - i in
           let none = greatest-nothing t (λ q. leb (p - l) q && bit g q) e q (run-top bound p i k m t em et a b h) in
           ap (λ (z : Bool). z && ltb k bound) (sym (ap (λ (z : Bool). z && bit g q) (le-leb (p - l) q (run-low p i k l el a))) ∙ none)
-      stands k b a (no h) = and-false (bit g (k + p - i)) (ltb k bound) (λ z. le-ltb k bound (omega arith))
+      stands k b a (no h) = none-of (bit g (k + p - i)) (ltb k bound) (λ z. le-ltb k bound (omega arith))
 
   -- where the run's newest digit lies
   pub record Within (q : ℕ) : Type 0 where
@@ -74,10 +74,10 @@ module _ (g bound p i l m t : ℕ) (el : l ≡ min p i) (em : m ≡ bound + p - 
       let k : ℕ = i + q - p in
       let back : k + p - i ≡ q = omega (arith, w .low, w .high) in
       greatest-at (i + 1) (λ k. leb (i - min p i) k && standing g (k + p - i) k bound) k (omega (arith, w .high))
-      (and-true _ _ (le-leb (i - min p i) k (omega (arith, w .low, w .high)))
-      (and-true _ _ (ap (bit g) back ∙ both-true (leb (p - l) q) (bit g q) (h .passes) .1)
+      (both-of _ _ (le-leb (i - min p i) k (omega (arith, w .low, w .high)))
+      (both-of _ _ (ap (bit g) back ∙ both-true (leb (p - l) q) (bit g q) (h .passes) .1)
       (lt-ltb k bound (omega (arith, w .low, w .high, w .bound-above)))))
-      (λ j b c. and-false (leb (i - min p i) j) _ (λ a. stands j b c (leb-true (i - min p i) j a) (decLt j bound) h w))
+      (λ j b c. none-of (leb (i - min p i) j) _ (λ a. stands j b c (leb-true (i - min p i) j a) (decLt j bound) h w))
     where
       stands : (j : ℕ) → i + q - p < j → j < i + 1 → i - min p i ≤ j → Dec (j < bound) → Greatest t (λ q. leb (p - l) q && bit g q) q → Within q
           → (bit g (j + p - i) && ltb j bound) ≡ false
@@ -85,7 +85,7 @@ module _ (g bound p i l m t : ℕ) (el : l ≡ min p i) (em : m ≡ bound + p - 
           let r : ℕ = j + p - i in
           let none = h .above r (omega (arith, w .low, w .high)) (run-top bound p i j m t em et a c d) in
           ap (λ (z : Bool). z && ltb j bound) (sym (ap (λ (z : Bool). z && bit g r) (le-leb (p - l) r (run-low p i j l el a))) ∙ none)
-      stands j b c a (no d) h w = and-false (bit g (j + p - i)) (ltb j bound) (λ z. le-ltb j bound (omega arith))
+      stands j b c a (no d) h w = none-of (bit g (j + p - i)) (ltb j bound) (λ z. le-ltb j bound (omega arith))
 
 -- The same in the form in which the code has it.
 module _ (g bound p i l m t : ℕ) (r : Found) where

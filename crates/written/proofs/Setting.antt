@@ -55,13 +55,6 @@ place-area lines a b l m h k e = sym (digits-div a h) ∙ (ap (λ (n : ℕ). n /
 pub place-line : (lines a b l m : ℕ) → l < lines → m < lines → placeOf lines a l ≡ placeOf lines b m → l ≡ m
 place-line lines a b l m h k e = sym (digits-mod a h) ∙ (ap (λ (n : ℕ). n % lines) e ∙ digits-mod b k)
 
-frame-split : (f : ℕ) → f / 16 * 16 + f % 16 ≡ f
-frame-split f = omega arith
-
--- A frame's place in its area has the frame's index.
-pub index-of-place : (n omf k f : ℕ) → omf < n → k < n → f ≡ frameAt n omf k → indexOf n omf (f / 16 * 16 + f % 16) ≡ k
-index-of-place n omf k f h b e = ap (indexOf n omf) (frame-split f ∙ e) ∙ index-frame n omf h k b
-
 module _ (w : Written) (tag l i : ℕ) (a : Asks w l i) (small : tag < 256) (open-tag : getD (w .history) tag 0 ≡ 65535) where
   abbrev n : ℕ
   n = w .frames

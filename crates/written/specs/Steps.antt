@@ -68,7 +68,7 @@ pub record RolledBack (w : Written) (tag kept : ℕ) (groups history : List ℕ)
   pub groups-is : groups ≡ cond (ltb tag 255) (w .groups) (swept (writtenOf (w .lines) (w .frames) (w .omf) (w .groups) entry))
   pub history-is : history ≡ set entry next 65535
 
--- What setting a bit asks besides, and what a rollback and an advance do.
+-- What a window of a group asks.
 pub record AsksWindow (frames omf area from end : ℕ) : Type 0 where
   pub omf-below : omf < frames
   pub area-below : area * 16 < frames
@@ -76,6 +76,7 @@ pub record AsksWindow (frames omf area from end : ℕ) : Type 0 where
   pub from-few : from ≤ 65535
   pub end-few : end ≤ 65535
 
+-- What clearing and a reset ask.
 pub record AsksClear (lines frames omf k long : ℕ) : Type 0 where
   pub lines-some : 0 < lines
   pub lines-few : lines ≤ 4096

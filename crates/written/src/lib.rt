@@ -1,5 +1,5 @@
 // Written bits and the rollback history, in lent lists. Every function is safe on any contents of the lists; what the `requires` ask
-// of numbers and lengths is tested by the store, which alone calls them.
+// of numbers and lengths is tested by the store. Only our own crates call them.
 use frames::Found;
 ghost use mathlib.Core.Path.{_≡_};
 ghost use Prim.Native.Nat.{_+_, _*_, _/_, _≤_, _<_, min};
@@ -82,7 +82,8 @@ fn newest_in_area(
     newest_run(group, bound, frame % 16, index)
 }
 
-// The newest effective bit of a line from a start index down: one group read for each working area passed.
+// The newest effective bit of a line from a start index down: one group read for each working area passed (an area in which OMF lies is
+// passed twice where the start lies behind OMF in it).
 pub fn search(
     groups: &[u32],
     history: &[u16],

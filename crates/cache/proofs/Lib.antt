@@ -1,4 +1,3 @@
-pub mod Bytes
 pub mod Returns
 pub mod Hits
 pub mod Uses

@@ -6,14 +6,14 @@ use Prim.Native.Nat.{ℕ, _+_, _*_, _≤_, _<_}
 use native.Mathlib.Omega.{arith}
 use borrow.Author.Tests.{eq-eqb, ne-eqb, lt-ltb, le-ltb, not-true, not-false}
 use lib.Dec.{eqb, ltb}
-use lib.ListN.{getD, set}
-use lib.Seq.{paste}
+use lib.ListN.{length, getD, set}
 use Rattle.rules.specs.Figure3.{setOf}
 use Rattle.frames.specs.Circle.{indexOf}
 use Rattle.cache.specs.declared.Cache.{Cache}
 use Rattle.cache.specs.declared.Entry.the-variants.{Hit, Miss}
 use Rattle.cache.specs.Entries.{lineOf, frameOf, isValid, isAt, home, found, wayTaken}
 use Rattle.frames.specs.Lists.{rewrite}
+use Rattle.frames.specs.Lines.{pasteLine}
 use Rattle.cache.specs.Steps.{archive, placed, isBelow, isDropped, flagAfter, forgotten, frameAfter, collected}
 
 module _ (c : Cache) (e : ℕ) where
@@ -115,9 +115,13 @@ module _ (omf frames n frame : ℕ) where
   unfolding frameAfter
   frame-kept b e t = rw (sym e ∙ t)
 
+-- the bytes of an entry lie in the cache's
+pub entry-room : (bytes : List ℕ) (entry : ℕ) → length bytes ≡ 512 → entry < 32 → 16 * entry + 16 ≤ length bytes
+entry-room bytes entry long h = omega arith
+
 -- the struct that `place` builds
 pub placed-done : (c : Cache) (line frame way : ℕ) (content bytes : List ℕ) → (way ≡ wayTaken c line) × (way < 2)
-    → bytes ≡ paste (c .bytes) (16 * (home line + way)) content 16
+    → bytes ≡ pasteLine (c .bytes) (16 * (home line + way)) content
     → record {
       lines = set (c .lines) (home line + way) line;
       frames = set (c .frames) (home line + way) frame;

@@ -5,13 +5,13 @@ use mathlib.Core.Bool.{Bool, true, false, cond, _&&_, false≢true}
 use mathlib.Core.Logic.{_≢_}
 use mathlib.Core.Option.{Option, none, some}
 use mathlib.Core.List.{List}
-use Prim.Native.Nat.{ℕ, zero, suc, _+_, _*_, _<_}
+use Prim.Native.Nat.{ℕ, zero, suc, _+_, _*_, _≤_, _<_}
 use native.Mathlib.Decide.{ℕ-discrete}
 use native.Mathlib.Omega.{arith}
 use borrow.Author.Tests.{eqb-true, eqb-false}
 use lib.Dec.{eqb}
 use lib.ListN.{length, getD, set, replicate, length-set}
-use lib.Seq.{getD-set-same, getD-set-other, length-paste}
+use lib.Seq.{getD-set-same, getD-set-other}
 use Rattle.rules.specs.Settings.{Settings}
 use Rattle.rules.specs.Figure3 as figure
 use Rattle.rules.specs.Figure3.{Way, Ways, WellCache, setOf, emptyCache, use-line, wayFor}
@@ -20,8 +20,8 @@ use Rattle.cache.specs.declared.Entry.the-variants.{Hit}
 use Rattle.cache.specs.Entries.{Sized, lineOf, frameOf, isValid, bytesOf, home, isAt, found, wayTaken, entryTaken, Has, SameAt, All}
 use Rattle.cache.specs.Steps.{emptied, placed}
 use Rattle.cache.specs.Shown.{lineIn, wayOf, shown}
-use Rattle.cache.proofs.Bytes.{paste-own, paste-other}
-use Rattle.cache.proofs.Returns.{found-first, found-second, taken-first}
+use Rattle.frames.proofs.Lines.{length-written, read-own, read-other, apart}
+use Rattle.cache.proofs.Returns.{entry-room, found-first, found-second, taken-first}
 use Rattle.cache.proofs.Hits.{at-is, way-below, taken-below, way-shown, line-taken}
 
 pub same-ways : {a b : Option ℕ} {p q : Option ℕ} {u v : Way} → a ≡ b → p ≡ q → u ≡ v
@@ -32,6 +32,10 @@ pub carried : (Q : ℕ → ℕ → List ℕ → Type 0) {m n g h : ℕ} {a b : L
 carried Q d e f q = rw (sym d, sym e, sym f) q
 
 module _ (c : Cache) (s : Sized c) (l f : ℕ) (bytes : List ℕ) (n : length bytes ≡ 16) where
+  -- there is room for a line at the entry taken
+  room : 16 * entryTaken c l + 16 ≤ length (c .bytes)
+  room = entry-room (c .bytes) (entryTaken c l) (s .bytes) (taken-below c l)
+
   pub placed-sized : Sized (placed c l f bytes)
   unfolding placed
   placed-sized =
@@ -39,7 +43,7 @@ module _ (c : Cache) (s : Sized c) (l f : ℕ) (bytes : List ℕ) (n : length by
         lines = length-set (c .lines) (entryTaken c l) l ∙ s .lines;
         frames = length-set (c .frames) (entryTaken c l) f ∙ s .frames;
         valid = length-set (c .valid) (entryTaken c l) 1 ∙ s .valid;
-        bytes = length-paste (c .bytes) (16 * entryTaken c l) bytes 16 (omega (arith, taken-below c l, s .bytes)) (omega arith) ∙ s .bytes;
+        bytes = length-written (c .bytes) bytes (16 * entryTaken c l) room n ∙ s .bytes;
         last = length-set (c .last) (setOf l) (wayTaken c l) ∙ s .last;
       }
 
@@ -52,7 +56,7 @@ module _ (c : Cache) (s : Sized c) (l f : ℕ) (bytes : List ℕ) (n : length by
             ap (λ (x : ℕ). eqb x 1) (getD-set-same (c .valid) (entryTaken c l) 1 0 (omega (arith, taken-below c l, s .valid)));
         line-is = getD-set-same (c .lines) (entryTaken c l) l 0 (omega (arith, taken-below c l, s .lines));
         frame-is = getD-set-same (c .frames) (entryTaken c l) f 0 (omega (arith, taken-below c l, s .frames));
-        bytes-are = paste-own (c .bytes) (16 * entryTaken c l) bytes (omega (arith, taken-below c l, s .bytes)) n;
+        bytes-are = read-own (c .bytes) bytes (16 * entryTaken c l) room n;
       }
 
   -- and every other entry what it had
@@ -63,7 +67,7 @@ module _ (c : Cache) (s : Sized c) (l f : ℕ) (bytes : List ℕ) (n : length by
         valid = ap (λ (x : ℕ). eqb x 1) (getD-set-other (c .valid) (entryTaken c l) e 1 0 d);
         line = getD-set-other (c .lines) (entryTaken c l) e l 0 d;
         frame = getD-set-other (c .frames) (entryTaken c l) e f 0 d;
-        bytes = paste-other (c .bytes) (entryTaken c l) e bytes (omega (arith, taken-below c l, s .bytes)) n d;
+        bytes = read-other (c .bytes) bytes (16 * entryTaken c l) room n (16 * e) (apart e (entryTaken c l) d);
       }
 
   in-own : lineIn (placed c l f bytes) (entryTaken c l) ≡ some l

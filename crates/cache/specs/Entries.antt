@@ -4,8 +4,9 @@ use mathlib.Core.Path.{_≡_}
 use mathlib.Core.Bool.{Bool, true, false, cond, not, _&&_}
 use mathlib.Core.List.{List}
 use lib.Dec.{eqb}
-use lib.ListN.{length, getD, take, drop}
+use lib.ListN.{length, getD}
 use Rattle.rules.specs.Figure3.{setOf}
+use Rattle.frames.specs.Lines.{lineAt}
 use Rattle.cache.specs.declared.Cache.{Cache}
 use Rattle.cache.specs.declared.Entry.{Entry}
 use Rattle.cache.specs.declared.Entry.the-variants.{Hit, Miss}
@@ -29,7 +30,7 @@ unfoldable pub isValid : Cache → ℕ → Bool
 isValid c e = eqb (getD (c .valid) e 0) 1
 
 unfoldable pub bytesOf : Cache → ℕ → List ℕ
-bytesOf c e = take 16 (drop (16 * e) (c .bytes))
+bytesOf c e = lineAt (c .bytes) (16 * e)
 
 -- The entry of way 0 of a line's set. That of way 1 is the next.
 abbrev pub home : ℕ → ℕ

@@ -4,9 +4,9 @@ use mathlib.Core.Bool.{Bool, cond, not, _&&_}
 use mathlib.Core.List.{List}
 use lib.Dec.{eqb, ltb}
 use lib.ListN.{set, replicate}
-use lib.Seq.{paste}
 use Rattle.rules.specs.Figure3.{setOf}
 use Rattle.frames.specs.Lists.{rewrite}
+use Rattle.frames.specs.Lines.{pasteLine}
 use Rattle.frames.specs.Circle.{indexOf}
 use Rattle.cache.specs.declared.Cache.{Cache}
 use Rattle.cache.specs.Entries.{frameOf, wayTaken, entryTaken}
@@ -28,7 +28,7 @@ placed c line frame bytes =
       lines = set (c .lines) (entryTaken c line) line;
       frames = set (c .frames) (entryTaken c line) frame;
       valid = set (c .valid) (entryTaken c line) 1;
-      bytes = paste (c .bytes) (16 * entryTaken c line) bytes 16;
+      bytes = pasteLine (c .bytes) (16 * entryTaken c line) bytes;
       last = set (c .last) (setOf line) (wayTaken c line);
     }
 

@@ -2,8 +2,8 @@
 // The functions with a `requires` are called by our own crates alone, which test what it asks.
 ghost use mathlib.Core.Path.{_≡_};
 ghost use Prim.Native.Nat.{_*_, _<_};
-ghost use lib.Seq.{paste};
 ghost use Rattle.frames.specs.Circle.{Turn};
+ghost use Rattle.frames.specs.Lines.{pasteLine};
 ghost use Rattle.cache.specs.Entries.{frameOf, isValid, bytesOf, isAt, found, wayTaken};
 ghost use Rattle.cache.specs.Steps.{emptied, placed, isBelow, flagAfter, forgotten, frameAfter, collected};
 
@@ -143,7 +143,7 @@ pub fn frame_of(cache: Cache, entry: u32) -> u16
 // The bytes of all entries with those of one replaced.
 fn with_line(bytes: [u8; 512], entry: u32, line: [u8; 16]) -> [u8; 512]
     requires { ⌜ entry < 32 ⌝ }
-    ensures { λ r. ⌜ r ≡ paste bytes (16 * entry) line 16 ⌝ }
+    ensures { λ r. ⌜ r ≡ pasteLine bytes (16 * entry) line ⌝ }
 {
     let from = 16 * (entry as usize);
     let mut after = bytes;

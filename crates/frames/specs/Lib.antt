@@ -1,4 +1,5 @@
 pub mod Lists
+pub mod Lines
 pub mod Circle
 pub mod Search
 pub mod Digits

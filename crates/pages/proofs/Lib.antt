@@ -1,4 +1,3 @@
-pub mod Copying
 pub mod Places
 pub mod Values
 pub mod Giving

@@ -1,17 +1,8 @@
 -- Lines in lists of bytes: in a part, in the pool and in the archive.
 use Prim.Native.Nat.{ℕ, _+_, _*_, _≤_, _<_}
 use mathlib.Core.List.{List}
-use lib.ListN.{take, drop}
-use lib.Seq.{paste}
 use Rattle.rules.specs.Line.{Line, blockOf}
-
--- "L lines of 16 bytes": the line that starts at a byte.
-unfoldable pub lineAt : (bytes : List ℕ) (at : ℕ) → Line
-lineAt bytes at = take 16 (drop at bytes)
-
--- "its most recent version is copied there": the bytes with a line copied there.
-unfoldable pub pasteLine : (bytes : List ℕ) (at : ℕ) → Line → List ℕ
-pasteLine bytes at x = paste bytes at x 16
+use Rattle.frames.specs.Lines.{lineAt, pasteLine}
 
 -- "A page holds 8 neighbouring lines": the line in a slot of the page that a part starts with.
 abbrev pub lineIn : (part : List ℕ) (slot : ℕ) → Line

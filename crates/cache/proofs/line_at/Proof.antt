@@ -1,15 +1,14 @@
 -- `cache::line_at` meets its contract. Assumes nothing.
-use mathlib.Core.Path.{_≡_, refl}
-use mathlib.Core.List.{_++_}
-use Prim.Native.Nat.{_-_, _≤_}
-use lib.ListN.{take, drop}
-use Rattle.cache.proofs.Bytes.{copy-next, copy-done}
+use Prim.Native.Nat.{_-_}
+use Rattle.cache.proofs.Returns.{entry-room}
+use Rattle.frames.proofs.Lines.{Read, read-start, read-next, read-end}
+use Rattle.cache.specs.Entries.{bytesOf}
 use borrow.Author.Needs.{needs}
 use Rattle.cache.proofs.line_at.Statement.{statement}
 use Rattle.cache.proofs.line_at.Tie as tie
 
 abbrev Inv-loop : tie.InvT-loop
-Inv-loop entry from bytes line₀ i₀ line i = (i ≤ 16) × (line ≡ take i (drop from bytes) ++ drop i line₀)
+Inv-loop entry from bytes line₀ i₀ line i = Read bytes line₀ line from i
 
 abbrev μ-loop : tie.MeasureT-loop
 μ-loop entry from bytes line₀ i₀ line i = 16 - i
@@ -18,7 +17,7 @@ mul-from : tie.Need-mul-from Inv-loop μ-loop
 mul-from c = search needs
 
 loop-holds : tie.Need-loop-holds Inv-loop μ-loop
-loop-holds c = (search needs, refl)
+loop-holds c = read-start _ _ _ (search (needs, entry-room)) (search needs)
 
 add-line : tie.Need-add-line Inv-loop μ-loop
 add-line c = search needs
@@ -36,10 +35,11 @@ loop-less : tie.Need-loop-less Inv-loop μ-loop
 loop-less c = search needs
 
 loop-again : tie.Need-loop-again Inv-loop μ-loop
-loop-again c = (search needs, search (needs, copy-next))
+loop-again c = search read-next
 
 returns : tie.Need-returns Inv-loop μ-loop
-returns c = search (needs, copy-done)
+unfolding bytesOf
+returns c = search read-end
 
 pub line-at-spec : {M : Type 1} → statement M
 line-at-spec =

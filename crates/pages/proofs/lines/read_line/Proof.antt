@@ -1,15 +1,12 @@
 -- `pages::lines::read_line` meets its contract. Assumes nothing.
-use Rattle.pages.proofs.Copying.{read-next, read-end}
-use Prim.Native.Nat.{_*_, _-_, _≤_}
-use mathlib.Core.Path.{_≡_, refl}
-use mathlib.Core.List.{_++_}
-use lib.ListN.{take, drop}
+use Rattle.frames.proofs.Lines.{Read, read-start, read-next, read-end}
+use Prim.Native.Nat.{_*_, _-_}
 use borrow.Author.Needs.{needs}
 use Rattle.pages.proofs.lines.read_line.Statement.{statement}
 use Rattle.pages.proofs.lines.read_line.Tie as tie
 
 abbrev Inv-loop : tie.InvT-loop
-Inv-loop part slot from line₀ i₀ line i = (i ≤ 16) × (line ≡ take i (drop (16 * slot) part) ++ drop i line₀)
+Inv-loop part slot from line₀ i₀ line i = Read part line₀ line (16 * slot) i
 
 abbrev μ-loop : tie.MeasureT-loop
 μ-loop part slot from line₀ i₀ line i = 16 - i
@@ -18,7 +15,7 @@ mul-from : tie.Need-mul-from Inv-loop μ-loop
 mul-from c = search needs
 
 loop-holds : tie.Need-loop-holds Inv-loop μ-loop
-loop-holds c = (search needs, refl)
+loop-holds c = read-start _ _ _ (search needs) (search needs)
 
 add-line : tie.Need-add-line Inv-loop μ-loop
 add-line c = search needs
@@ -36,10 +33,10 @@ loop-less : tie.Need-loop-less Inv-loop μ-loop
 loop-less c = search needs
 
 loop-again : tie.Need-loop-again Inv-loop μ-loop
-loop-again c = (search needs, search (needs, read-next))
+loop-again c = search read-next
 
 returns : tie.Need-returns Inv-loop μ-loop
-returns c = search (needs, read-end)
+returns c = search read-end
 
 pub read-line-spec : {M : Type 1} → statement M
 read-line-spec =

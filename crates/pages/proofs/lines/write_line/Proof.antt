@@ -1,12 +1,12 @@
 -- `pages::lines::write_line` meets its contract. Assumes nothing.
-use Rattle.pages.proofs.Copying.{Copied, copied-start, copied-next, copied-end}
-use Prim.Native.Nat.{_-_}
+use Rattle.frames.proofs.Lines.{Copied, copied-start, copied-next, copied-end}
+use Prim.Native.Nat.{_*_, _-_}
 use borrow.Author.Needs.{needs}
 use Rattle.pages.proofs.lines.write_line.Statement.{statement}
 use Rattle.pages.proofs.lines.write_line.Tie as tie
 
 abbrev Inv-loop : tie.InvT-loop
-Inv-loop part₀ slot line to i₀ part i = Copied part₀ line part slot i
+Inv-loop part₀ slot line to i₀ part i = Copied part₀ line part (16 * slot) i
 
 abbrev μ-loop : tie.MeasureT-loop
 μ-loop part₀ slot line to i₀ part i = 16 - i
@@ -15,7 +15,7 @@ mul-to : tie.Need-mul-to Inv-loop μ-loop
 mul-to c = search needs
 
 loop-holds : tie.Need-loop-holds Inv-loop μ-loop
-loop-holds c = search copied-start
+loop-holds c = copied-start _ _ _ (search needs) (search needs)
 
 array-read-part : tie.Need-array-read-part Inv-loop μ-loop
 array-read-part c = search needs
@@ -33,13 +33,13 @@ loop-less : tie.Need-loop-less Inv-loop μ-loop
 loop-less c = search needs
 
 loop-again : tie.Need-loop-again Inv-loop μ-loop
-loop-again c = search (needs, copied-next)
+loop-again c = search copied-next
 
 same-length : tie.Need-same-length Inv-loop μ-loop
 same-length c = search needs
 
 returns : tie.Need-returns Inv-loop μ-loop
-returns c = search (needs, copied-end)
+returns c = search copied-end
 
 pub write-line-spec : {M : Type 1} → statement M
 write-line-spec =

@@ -2,3 +2,4 @@ pub mod Returns
 pub mod Hits
 pub mod Uses
 pub mod Frames
+pub mod Figure

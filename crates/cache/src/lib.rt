@@ -2,10 +2,12 @@
 // The functions with a `requires` are called by our own crates alone, which test what it asks.
 ghost use mathlib.Core.Path.{_≡_};
 ghost use Prim.Native.Nat.{_*_, _<_};
+ghost use Rattle.rules.specs.Figure3.{emptyCache, use-line, holds};
 ghost use Rattle.frames.specs.Circle.{Turn};
 ghost use Rattle.frames.specs.Lines.{pasteLine};
-ghost use Rattle.cache.specs.Entries.{frameOf, isValid, bytesOf, isAt, found, wayTaken};
+ghost use Rattle.cache.specs.Entries.{frameOf, isValid, bytesOf, isAt, found, isHit, wayTaken};
 ghost use Rattle.cache.specs.Steps.{emptied, placed, isBelow, flagAfter, forgotten, frameAfter, collected};
+ghost use Rattle.cache.specs.Shown.{shown, Forgets};
 
 // The entry of a set's way is 2 * set + way.
 pub struct Cache {
@@ -31,7 +33,7 @@ pub enum Entry {
 
 // The cache after RESET.
 pub fn empty() -> Cache
-    ensures { λ r. ⌜ r ≡ emptied ⌝ }
+    ensures { λ r. ⌜ (r ≡ emptied) × (shown r ≡ emptyCache) ⌝ }
 {
     let lines = [0u32; 32];
     let frames = [0u16; 32];
@@ -76,7 +78,7 @@ fn is_at(cache: Cache, entry: u32, line: u32) -> bool
 
 // The entry of the line's set that is valid and holds the line, way 0 first.
 pub fn find(cache: Cache, line: u32) -> Entry
-    ensures { λ r. ⌜ r ≡ found cache line ⌝ }
+    ensures { λ r. ⌜ (r ≡ found cache line) × (isHit r ≡ holds (shown cache) line) ⌝ }
 {
     let first = 2 * (line % 16);
     let second = first + 1;
@@ -157,7 +159,7 @@ fn with_line(bytes: [u8; 512], entry: u32, line: [u8; 16]) -> [u8; 512]
 
 // A use of a line, by a read or a write, hit or miss: the way taken holds it with this frame and content, and was used last.
 pub fn place(cache: Cache, line: u32, frame: u16, content: [u8; 16]) -> Cache
-    ensures { λ r. ⌜ r ≡ placed cache line frame content ⌝ }
+    ensures { λ r. ⌜ (r ≡ placed cache line frame content) × (shown r ≡ use-line line (shown cache)) ⌝ }
 {
     let way = way_for(cache, line);
     let set = line % 16;
@@ -214,7 +216,7 @@ fn flag_after(frame: u16, flag: u8, omf: u32, frames: u32, kept: u32) -> u8
 // The cache after a rollback that keeps the frames with an index below `kept`.
 pub fn forget(cache: Cache, omf: u32, frames: u32, kept: u32) -> Cache
     requires { ⌜ Turn frames omf omf ⌝ }
-    ensures { λ r. ⌜ r ≡ forgotten cache omf frames kept ⌝ }
+    ensures { λ r. ⌜ (r ≡ forgotten cache omf frames kept) × Forgets cache omf frames kept r ⌝ }
 {
     let held = cache.frames;
     let mut valid = cache.valid;
@@ -249,7 +251,7 @@ fn frame_after(frame: u16, omf: u32, frames: u32, k: u32) -> u16
 // The cache after an advance over the k frames from this OMF on: their lines count as the archive's.
 pub fn collect(cache: Cache, omf: u32, frames: u32, k: u32) -> Cache
     requires { ⌜ Turn frames omf omf ⌝ }
-    ensures { λ r. ⌜ r ≡ collected cache omf frames k ⌝ }
+    ensures { λ r. ⌜ (r ≡ collected cache omf frames k) × (shown r ≡ shown cache) ⌝ }
 {
     let mut held = cache.frames;
     let mut i = 0;

@@ -1,15 +1,28 @@
 -- A list rewritten element by element. Assumes nothing.
 use mathlib.Core.Path.{_≡_, refl, sym, _∙_, ap, ap₂}
-use mathlib.Core.List.{List}
+use mathlib.Core.List.{List, [], _∷_}
 use Prim.Native.Nat.{ℕ, zero, suc, _+_, _≤_, _<_}
 use native.Mathlib.Numerals.{add-one}
 use native.Mathlib.Decide.{ℕ-discrete}
 use native.Mathlib.Omega.{arith}
-use lib.ListN.{length, getD, set, length-set}
+use lib.ListN.{length, getD, set, drop, length-set}
 use lib.Seq.{getD-set-same, getD-set-other}
 use Rattle.frames.specs.Lists.{rewrite}
 
+-- A list from an element on is the same after a change before it,
+pub drop-set : (xs : List ℕ) (k n v : ℕ) → k < n → drop n (set xs k v) ≡ drop n xs
+drop-set xs k zero v h = absurd (omega arith)
+drop-set [] k (suc n) v h = refl
+drop-set (x ∷ xs) zero (suc n) v h = refl
+drop-set (x ∷ xs) (suc k) (suc n) v h = drop-set xs k n v (omega arith)
+
 module _ (f : ℕ → ℕ → ℕ) (xs : List ℕ) where
+  -- so what lies past the elements rewritten stays.
+  pub rewrite-drop : (n m : ℕ) → n ≤ m → drop m (rewrite n f xs) ≡ drop m xs
+  unfolding rewrite
+  rewrite-drop zero m h = refl
+  rewrite-drop (suc n) m h = drop-set (rewrite n f xs) n m _ (omega arith) ∙ rewrite-drop n m (omega arith)
+
   pub rewrite-length : (n : ℕ) → length (rewrite n f xs) ≡ length xs
   unfolding rewrite
   rewrite-length zero = refl

@@ -1,10 +1,10 @@
 // Arithmetic of the circle of frames, and of written bits as binary digits. Frame numbers are compared only by their index from OMF.
 // The functions with a `requires` are called by our own crates alone, which test what it asks.
 ghost use mathlib.Core.Path.{_≡_};
-ghost use Prim.Native.Nat.{_≤_, _<_, _^_};
+ghost use Prim.Native.Nat.{_<_, _^_};
 ghost use Rattle.rules.specs.Refusal.{liveFrames};
 ghost use Rattle.frames.specs.Circle.{Turn, indexOf, frameAt};
-ghost use Rattle.frames.specs.Digits.{Ends, rangeOf, setAt, bit, newestBit};
+ghost use Rattle.frames.specs.Digits.{Ends, rangeOf, setAt, newestBit};
 
 // A place that a search finds.
 pub enum Found {
@@ -34,6 +34,13 @@ pub fn live(cmf: u32, omf: u32, frames: u32) -> u32
     ensures { λ r. ⌜ r ≡ liveFrames frames cmf omf ⌝ }
 {
     index(cmf, omf, frames) + 1
+}
+
+// A stored number in the type that all arithmetic has.
+pub fn wide(x: u16) -> u32
+    ensures { λ r. ⌜ (r ≡ x) × (r < 65536) ⌝ }
+{
+    x as u32
 }
 
 // The lesser of two numbers.

@@ -1,7 +1,7 @@
 -- What a page that is given out is, and what claiming it keeps. Assumes nothing.
 use mathlib.Core.Path.{_≡_, refl, sym, _∙_, ap, ap₂}
 use mathlib.Core.Bool.{Bool, true, false, not, cond, _&&_}
-use mathlib.Core.Logic.{_⊎_, inl, inr}
+use mathlib.Core.Logic.{_⊎_, inl, inr, _≢_}
 use mathlib.Core.List.{List}
 use Prim.Native.Nat.{ℕ, zero, suc, _+_, _-_, _≤_, _<_}
 use native.Mathlib.Decide.{ℕ-discrete, decLt}
@@ -50,12 +50,24 @@ never : (q : ℕ) (other : Found) → orElse (At q) other ≡ Nothing → _≡_ 
 unfolding orElse
 never q other e = cc
 
-backed-held : (need : ℕ → Bool) (places : ℕ) (table owners : ℕ → ℕ) (p y : ℕ) → y < places → need y ≡ true → table y ≡ p → owners p ≡ y
+-- The page of a needed place is held,
+pub backed-held : (need : ℕ → Bool) (places : ℕ) (table owners : ℕ → ℕ) (p y : ℕ) → y < places → need y ≡ true → table y ≡ p → owners p ≡ y
     → held need places table owners p ≡ true
 unfolding held
 backed-held need places table owners p y b n d o =
     ap₂ (λ (s t : Bool). s && t) (lt-ltb (owners p) places (omega arith))
     (ap₂ (λ (s t : Bool). s && t) (eq-eqb (table (owners p)) p (ap table o ∙ d)) (ap need o ∙ n))
+
+-- so a page that is not held is no needed place's,
+pub free-of : (need : ℕ → Bool) (places pages : ℕ) (table owners : ℕ → ℕ) → Confirmed need places pages table owners → (p : ℕ) → held need places table owners p ≡ false
+    → (y : ℕ) → y < places → need y ≡ true → table y ≢ p
+free-of need places pages table owners c p free y b n d =
+    mathlib.Core.Bool.false≢true (sym free ∙ backed-held need places table owners p y b n d (ap owners (sym d) ∙ c y b n .1))
+
+-- and two needed places never share a page.
+pub one-page : (need : ℕ → Bool) (places pages : ℕ) (table owners : ℕ → ℕ) → Confirmed need places pages table owners → (x y : ℕ) → x < places → need x ≡ true
+    → y < places → need y ≡ true → table x ≡ table y → x ≡ y
+one-page need places pages table owners c x y a m b n e = sym (c x a m .1) ∙ (ap owners e ∙ c y b n .1)
 
 -- The page given out is one of the pages and is not held; where none is given, all are held.
 module _ (pages hint : ℕ) (isHeld : ℕ → Bool) (low : hint ≤ pages) where
@@ -86,28 +98,22 @@ module _ (pages hint : ℕ) (isHeld : ℕ → Bool) (low : hint ≤ pages) where
           ]
 
 -- Fewer needs leave every place confirmed: a rollback, an advance and a sweep need no code for pages.
-pub fewer-confirmed : (need less : ℕ → Bool) (places pages : ℕ) (table owners : ℕ → ℕ) → ((x : ℕ) → less x ≡ true → need x ≡ true)
+pub fewer-confirmed : (need less : ℕ → Bool) (places pages : ℕ) (table owners : ℕ → ℕ) → ((x : ℕ) → x < places → less x ≡ true → need x ≡ true)
     → Confirmed need places pages table owners → Confirmed less places pages table owners
-fewer-confirmed need less places pages table owners h c x b e = c x b (h x e)
+fewer-confirmed need less places pages table owners h c x b e = c x b (h x b e)
 
 -- A page that is not held, claimed for a place: every other needed place keeps its page and owner.
 pub claim-confirmed : (need more : ℕ → Bool) (places pages x p : ℕ) (table owners : List ℕ) → x < length table → p < length owners → p < pages
     → held need places (λ y. getD table y 0) (λ q. getD owners q 0) p ≡ false
-    → ((y : ℕ) → more y ≡ true → (y ≡ x) ⊎ (need y ≡ true))
+    → ((y : ℕ) → y < places → more y ≡ true → (y ≡ x) ⊎ (need y ≡ true))
     → Confirmed need places pages (λ y. getD table y 0) (λ q. getD owners q 0)
     → Confirmed more places pages (λ y. getD (set table x p) y 0) (λ q. getD (set owners p x) q 0)
-claim-confirmed need more places pages x p table owners bx bp few free only c y b e = go (ℕ-discrete y x) (only y e)
+claim-confirmed need more places pages x p table owners bx bp few free only c y b e = go (ℕ-discrete y x) (only y b e)
   where
     own : y ≡ x → (getD (set table x p) y 0 < pages) × (getD (set owners p x) (getD (set table x p) y 0) 0 ≡ y)
     own d =
         let entry : getD (set table x p) y 0 ≡ p = ap (λ (z : ℕ). getD (set table x p) z 0) d ∙ getD-set-same table x p 0 bx in
         (omega (arith, entry), ap (λ (q : ℕ). getD (set owners p x) q 0) entry ∙ (getD-set-same owners p x 0 bp ∙ sym d))
-
-    taken : need y ≡ true → getD table y 0 ≡ p → ⊥
-    taken n d =
-        let k = c y b n in
-        mathlib.Core.Bool.false≢true
-        (sym free ∙ backed-held need places (λ z. getD table z 0) (λ q. getD owners q 0) p y b n d (ap (λ (q : ℕ). getD owners q 0) (sym d) ∙ k .1))
 
     go : Dec (y ≡ x) → (y ≡ x) ⊎ (need y ≡ true) → (getD (set table x p) y 0 < pages) × (getD (set owners p x) (getD (set table x p) y 0) 0 ≡ y)
     go (yes d) o = own d
@@ -116,5 +122,5 @@ claim-confirmed need more places pages x p table owners bx bp few free only c y 
         let k = c y b n in
         let entry : getD (set table x p) y 0 ≡ getD table y 0 = getD-set-other table x y p 0 d in (
           omega (arith, entry, k .0),
-          ap (λ (q : ℕ). getD (set owners p x) q 0) entry ∙ (getD-set-other owners p (getD table y 0) x 0 (taken n) ∙ k .1),
+          ap (λ (q : ℕ). getD (set owners p x) q 0) entry ∙ (getD-set-other owners p (getD table y 0) x 0 (free-of need places pages (λ z. getD table z 0) (λ q. getD owners q 0) c p free y b n) ∙ k .1),
         )

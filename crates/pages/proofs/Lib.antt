@@ -4,3 +4,4 @@ pub mod Giving
 pub mod Holding
 pub mod Claiming
 pub mod Counting
+pub mod Keeping

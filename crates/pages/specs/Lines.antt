@@ -40,7 +40,7 @@ pub record AsksPage (page slot long : ℕ) : Type 0 where
   pub room : 128 * page + 128 ≤ long
 
 -- What is asked of a line and the length of the archive, which has whole blocks: "L is a multiple of 8 from 8 to 4,096".
-pub record AsksBlock (line long : ℕ) : Type 0 where
+pub record AsksArchive (line long : ℕ) : Type 0 where
   pub line-few : line < 4096
   pub room : 128 * blockOf line + 128 ≤ long
 

@@ -1,5 +1,5 @@
 -- The page table and the pages' owners. Nothing is cleared at a rollback or a reset: an entry that the pair does not confirm is stale.
-use Prim.Native.Nat.{ℕ, zero, suc, _-_, _*_, _/_, _%_, _≤_, _<_}
+use Prim.Native.Nat.{ℕ, zero, suc, _+_, _-_, _*_, _/_, _%_, _≤_, _<_}
 use mathlib.Core.Path.{_≡_}
 use mathlib.Core.Bool.{Bool, true, not, cond, _&&_}
 use mathlib.Core.List.{List}
@@ -17,6 +17,9 @@ blocksOf w = w .lines / 8
 
 abbrev pub placesOf : Written → ℕ
 placesOf w = w .frames * blocksOf w
+
+unfoldable pub placeAt : Written → (frame block : ℕ) → ℕ
+placeAt w f b = f * blocksOf w + b
 
 -- "A page of a live frame is needed if a line in it has its written bit set."
 unfoldable pub neededAt : Written → ℕ → Bool

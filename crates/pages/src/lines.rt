@@ -3,7 +3,7 @@ ghost use mathlib.Core.Path.{_≡_};
 ghost use Prim.Native.Nat.{_<_};
 ghost use lib.ListN.{length};
 ghost use Rattle.rules.specs.Line.{valueAt, edit};
-ghost use Rattle.pages.specs.Lines.{AsksSlot, AsksPage, AsksBlock, AsksBytes};
+ghost use Rattle.pages.specs.Lines.{AsksSlot, AsksPage, AsksArchive, AsksBytes};
 ghost use Rattle.pages.specs.Lines.{lineIn, withLine, pageLine, withPageLine, archiveLine, withArchiveLine};
 
 // The line in a slot of the page that the part starts with.
@@ -54,7 +54,7 @@ pub fn write_page_line(pool: &mut [u8], page: u32, slot: u32, line: [u8; 16])
 
 // A line of the archive, whose blocks lie one after the other as pages do in the pool.
 pub fn read_archive_line(archive: &[u8], line: u32) -> [u8; 16]
-    requires { ⌜ AsksBlock line (length (now archive)) ⌝ }
+    requires { ⌜ AsksArchive line (length (now archive)) ⌝ }
     ensures { λ r. ⌜ r ≡ archiveLine (now (archive .entry)) line ⌝ }
 {
     read_page_line(archive, line / 8, line % 8)
@@ -62,7 +62,7 @@ pub fn read_archive_line(archive: &[u8], line: u32) -> [u8; 16]
 
 // Copies a content to a line of the archive.
 pub fn write_archive_line(archive: &mut [u8], line: u32, content: [u8; 16])
-    requires { ⌜ AsksBlock line (length (now archive)) ⌝ }
+    requires { ⌜ AsksArchive line (length (now archive)) ⌝ }
     ensures { λ _. ⌜ now (archive .exit) ≡ withArchiveLine (now (archive .entry)) line content ⌝ }
 {
     write_page_line(archive, line / 8, line % 8, content);

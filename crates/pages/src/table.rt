@@ -10,12 +10,6 @@ ghost use Rattle.rules.specs.Seen.{count};
 ghost use Rattle.written.specs.Bits.{writtenOf};
 ghost use Rattle.pages.specs.Table.{AsksTable, heldAt, smallest, given};
 
-fn wide(x: u16) -> u32
-    ensures { λ r. ⌜ r ≡ x ⌝ }
-{
-    x as u32
-}
-
 // Whether a page is held: its owner's table entry points back, and the owner is needed.
 pub fn is_held(
     groups: &[u32],
@@ -35,7 +29,7 @@ pub fn is_held(
     if frames * blocks <= owner {
         return false;
     }
-    if wide(table[owner as usize]) != page {
+    if frames::wide(table[owner as usize]) != page {
         return false;
     }
     written::needed(

@@ -27,19 +27,13 @@ fn group_at(groups: &[u32], lines: u32, area: u32, line: u32) -> u32
     groups[at]
 }
 
-fn wide(x: u16) -> u32
-    ensures { λ r. ⌜ (r ≡ x) × (r < 65536) ⌝ }
-{
-    x as u32
-}
-
 // What the history has for a group's tag.
 fn bound_of(history: &[u16], group: u32) -> u32
     requires { ⌜ 256 ≤ length (now history) ⌝ }
     ensures { λ r. ⌜ (r ≡ boundOf (now (history .entry)) group) × (r < 65536) ⌝ }
 {
     let tag = (group / 65536 % 256) as usize;
-    wide(history[tag])
+    frames::wide(history[tag])
 }
 
 // How far down from an index its working area goes on.
@@ -382,7 +376,7 @@ pub fn advance(groups: &mut [u32], history: &mut [u16], lines: u32, frames: u32,
     ensures kept { λ _. ⌜ now (groups .exit) ≡ cleared lines frames omf k (now (groups .entry)) ⌝ }
     ensures bounds { λ _. ⌜ now (history .exit) ≡ lowered k (now (history .entry)) ⌝ }
 {
-    clear(groups, lines, frames, omf, wide(k));
+    clear(groups, lines, frames, omf, frames::wide(k));
     lower(history, k);
 }
 

@@ -5,6 +5,7 @@ use Rattle.cache.proofs.Returns.{collected-done}
 use Rattle.frames.proofs.Lists.{rewrite-next}
 use Rattle.frames.specs.Lists.{rewrite}
 use Rattle.cache.specs.Steps.{frameAfter}
+use Rattle.cache.proofs.Figure.{collected-told}
 use borrow.Author.Needs.{needs}
 use Rattle.cache.proofs.collect.Statement.{statement}
 use Rattle.cache.proofs.collect.Tie as tie
@@ -44,7 +45,7 @@ loop-again : tie.Need-loop-again Inv-loop μ-loop
 loop-again c = (search needs, rewrite-next _ _ _ _ _ (c .before .before .loop .inv .1) (c .frame-after .ensures))
 
 returns : tie.Need-returns Inv-loop μ-loop
-returns c = search collected-done
+returns c = collected-told _ _ (record { lines = search needs; frames = search needs; valid = search needs; bytes = search needs; last = search needs }) _ _ _ (search collected-done)
 
 pub collect-spec : {M : Type 1} → statement M
 collect-spec =

@@ -6,6 +6,7 @@ use Rattle.frames.proofs.Lists.{rewrite-next}
 use lib.ListN.{getD}
 use Rattle.frames.specs.Lists.{rewrite}
 use Rattle.cache.specs.Steps.{flagAfter}
+use Rattle.cache.proofs.Figure.{forgotten-told}
 use borrow.Author.Needs.{needs}
 use Rattle.cache.proofs.forget.Statement.{statement}
 use Rattle.cache.proofs.forget.Tie as tie
@@ -45,7 +46,7 @@ loop-again : tie.Need-loop-again Inv-loop μ-loop
 loop-again c = (search needs, rewrite-next _ _ _ _ _ (c .before .before .loop .inv .1) (c .flag-after .ensures))
 
 returns : tie.Need-returns Inv-loop μ-loop
-returns c = search forgotten-done
+returns c = forgotten-told _ _ (record { lines = search needs; frames = search needs; valid = search needs; bytes = search needs; last = search needs }) _ _ _ (search forgotten-done)
 
 pub forget-spec : {M : Type 1} → statement M
 forget-spec =

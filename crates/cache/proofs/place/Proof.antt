@@ -1,5 +1,6 @@
 -- `cache::place` meets its contract. Assumes nothing.
 use Rattle.cache.proofs.Returns.{placed-done}
+use Rattle.cache.proofs.Figure.{placed-told}
 use borrow.Author.Needs.{needs}
 use Rattle.cache.proofs.place.Statement.{statement}
 use Rattle.cache.proofs.place.Tie as tie
@@ -44,7 +45,7 @@ array-write-last : tie.Need-array-write-last
 array-write-last c = search needs
 
 returns : tie.Need-returns
-returns c = search placed-done
+returns c = placed-told _ _ (record { lines = search needs; frames = search needs; valid = search needs; bytes = search needs; last = search needs }) _ _ _ (search needs) (search placed-done)
 
 pub place-spec : {M : Type 1} → statement M
 place-spec =

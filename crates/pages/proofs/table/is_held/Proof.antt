@@ -30,7 +30,7 @@ wide-requires : tie.Need-wide-requires
 wide-requires c κs = search needs
 
 returns-2 : tie.Need-returns-2
-returns-2 c = held-other _ _ _ _ _ (c .before .before .before .if1 .left) (c .before .wide .ensures) (c .if2 .taken)
+returns-2 c = held-other _ _ _ _ _ (c .before .before .before .if1 .left) (c .before .wide .ensures .0) (c .if2 .taken)
 
 div-needed : tie.Need-div-needed
 div-needed c = search needs
@@ -42,7 +42,7 @@ needed-requires : tie.Need-needed-requires
 needed-requires c κs = needed-asks _ _ _ (c .before .before .before .before .before .before .before .before .before .pre .0) (c .before .before .before .if1 .left)
 
 returns-3 : tie.Need-returns-3
-returns-3 c = held-needed _ _ _ _ _ _ (c .before .before .before .before .if1 .left) (c .before .before .wide .ensures) (c .before .if2 .left) (c .needed .ensures)
+returns-3 c = held-needed _ _ _ _ _ _ (c .before .before .before .before .if1 .left) (c .before .before .wide .ensures .0) (c .before .if2 .left) (c .needed .ensures)
 
 pub is-held-spec : {M : Type 1} → statement M
 is-held-spec =

@@ -18,7 +18,7 @@ use Rattle.written.specs.Bits.{Written, writtenOf, Lent, placeOf, tagOf,
 use Rattle.written.specs.Steps.{Ordered, cleared, lowerBound, lowered}
 use Rattle.written.specs.Well.{WellBits}
 use Rattle.frames.proofs.Lists.{rewrite-at, rewrite-length}
-use Rattle.written.proofs.Areas.{place-below, area-below}
+use Rattle.written.proofs.Areas.{place-below, area-below, lent-kept}
 use Rattle.written.proofs.Windows.{window-small, window-bit}
 use Rattle.written.proofs.Setting.{tagged-tag, tagged-bit}
 use Rattle.written.proofs.Sweeping.{lower-open, lower-else}
@@ -164,16 +164,7 @@ module _ (w : Written) (lent : Lent w) (k : ℕ) (below : k < w .frames) where
   pub advanced-well : (tag live : ℕ) → WellBits w tag live → WellBits advanced tag (live - k)
   advanced-well tag live q =
       record {
-        lent =
-            record {
-              lines-some = lent .lines-some;
-              lines-few = lent .lines-few;
-              frames-by = lent .frames-by;
-              frames-few = lent .frames-few;
-              omf-below = frame-below (w .frames) (w .omf) (lent .omf-below) k;
-              groups-long = omega (arith, groups-length, lent .groups-long);
-              history-long = omega (arith, history-length, lent .history-long);
-            };
+        lent = lent-kept w _ _ _ lent (frame-below (w .frames) (w .omf) (lent .omf-below) k) cleared-length lowered-length;
         tag-below = q .tag-below;
         tags = tags;
         open-tag =
@@ -187,12 +178,6 @@ module _ (w : Written) (lent : Lent w) (k : ℕ) (below : k < w .frames) where
       -- no used entry is above the current tag's
       few : (t : ℕ) → t ≤ tag → getD (w .history) t 0 ≤ 65535
       few t b = few-from tag (w .history) (q .ordered) (q .open-tag) t b
-
-      groups-length : length (cleared (w .lines) (w .frames) (w .omf) k (w .groups)) ≡ length (w .groups)
-      groups-length = cleared-length
-
-      history-length : length (lowered k (w .history)) ≡ length (w .history)
-      history-length = lowered-length
 
       tags : (at p : ℕ) → at < w .frames / 16 * w .lines → p < 16 → bit (getD (cleared (w .lines) (w .frames) (w .omf) k (w .groups)) at 0) p ≡ true
           → tagOf (getD (cleared (w .lines) (w .frames) (w .omf) k (w .groups)) at 0) ≤ tag

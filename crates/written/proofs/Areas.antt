@@ -1,12 +1,14 @@
 -- Frames of one working area, by their indexes from OMF. Assumes nothing.
 use mathlib.Core.Path.{_≡_}
 use mathlib.Core.Logic.{⊎-elim}
+use mathlib.Core.List.{List}
 use Prim.Native.Nat.{ℕ, _+_, _-_, _*_, _/_, _%_, _≤_, _<_}
 use native.Mathlib.Nat.{mul-le-mul-right, suc-mul}
 use native.Mathlib.Omega.{arith}
+use lib.ListN.{length}
 use Rattle.frames.specs.Circle.{frameAt}
 use Rattle.frames.proofs.Circle.{frame-below, frame-cases}
-use Rattle.written.specs.Bits.{Written, placeOf, Asks, Near}
+use Rattle.written.specs.Bits.{Written, writtenOf, Lent, placeOf, Asks, Near}
 
 -- a step of d places down within the area
 module _ (n omf : ℕ) (h : omf < n) where
@@ -61,3 +63,17 @@ asks-near w l i f a e =
         place-below (w .lines) (w .frames / 16) (f / 16) l (area-below (w .frames) f (q .frames-by) b) (a .line-below),
       ),
     )
+
+-- Lent pieces of the same lengths, with OMF on the circle, are lent alike.
+pub lent-kept : (w : Written) (omf : ℕ) (groups history : List ℕ) → Lent w → omf < w .frames → length groups ≡ length (w .groups)
+    → length history ≡ length (w .history) → Lent (writtenOf (w .lines) (w .frames) omf groups history)
+lent-kept w omf groups history q below g h =
+    record {
+      lines-some = q .lines-some;
+      lines-few = q .lines-few;
+      frames-by = q .frames-by;
+      frames-few = q .frames-few;
+      omf-below = below;
+      groups-long = omega (arith, q .groups-long);
+      history-long = omega (arith, q .history-long);
+    }

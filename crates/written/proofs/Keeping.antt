@@ -16,6 +16,7 @@ use Rattle.written.specs.Bits.{Written, writtenOf, Lent, Asks, placeOf, 
 use Rattle.written.specs.Steps.{regrouped, withWritten, blanked}
 use Rattle.written.specs.Well.{WellBits}
 use Rattle.frames.proofs.Lists.{rewrite-at, rewrite-length}
+use Rattle.written.proofs.Areas.{lent-kept}
 use Rattle.written.proofs.Windows.{window-small}
 use Rattle.written.proofs.Setting.{set-in, set-effective, tagged-tag}
 use Rattle.written.proofs.Rolling.{group-place}
@@ -66,16 +67,7 @@ module _ (w : Written) (tag live l i : ℕ) (q : WellBits w tag live) (a : Asks 
   pub set-keeps : WellBits (writtenOf (w .lines) (w .frames) (w .omf) (withWritten w tag l i) (w .history)) tag live
   set-keeps =
       record {
-        lent =
-            record {
-              lines-some = q .lent .lines-some;
-              lines-few = q .lent .lines-few;
-              frames-by = q .lent .frames-by;
-              frames-few = q .lent .frames-few;
-              omf-below = q .lent .omf-below;
-              groups-long = omega (arith, set-length, q .lent .groups-long);
-              history-long = q .lent .history-long;
-            };
+        lent = lent-kept w (w .omf) _ (w .history) (q .lent) (q .lent .omf-below) set-length refl;
         tag-below = q .tag-below;
         tags = set-tags;
         open-tag = q .open-tag;

@@ -17,7 +17,7 @@ use Rattle.written.specs.Bits.{Written, writtenOf, Lent, placeOf, tagOf,
 use Rattle.written.specs.Steps.{maskedOf, Ordered, entered, Entered, swept, nextTag, RolledBack}
 use Rattle.written.specs.Well.{WellBits}
 use Rattle.frames.proofs.Lists.{rewrite-at, rewrite-length}
-use Rattle.written.proofs.Areas.{place-below, area-below}
+use Rattle.written.proofs.Areas.{place-below, area-below, lent-kept}
 use Rattle.written.proofs.Windows.{window-small, window-bit}
 
 ltb-min : (k a b : ℕ) → ltb k (min a b) ≡ (ltb k a && ltb k b)
@@ -229,16 +229,7 @@ module _ (w : Written) (tag kept live : ℕ) (q : WellBits w tag live) (groups h
   rolled-well small =
       record {
         lent =
-            record {
-              lines-some = q .lent .lines-some;
-              lines-few = q .lent .lines-few;
-              frames-by = q .lent .frames-by;
-              frames-few = q .lent .frames-few;
-              omf-below = q .lent .omf-below;
-              groups-long = omega (arith, groups-long, q .lent .groups-long);
-              history-long =
-                  omega (arith, ap length (r .history-is), length-set (r .entry) next 65535, entry-long, q .lent .history-long);
-            };
+            lent-kept w (w .omf) _ _ (q .lent) (q .lent .omf-below) groups-long (ap length (r .history-is) ∙ (length-set (r .entry) next 65535 ∙ entry-long));
         tag-below = next-below;
         tags = rolled-tags;
         open-tag =

@@ -1,0 +1,156 @@
+-- The tests of the settings, the state and the lent lengths, as linear facts. Assumes nothing.
+use mathlib.Core.Path.{_≡_, refl, sym, _∙_, ap, ap₂}
+use mathlib.Core.Bool.{Bool, true, false, cond, _&&_, and-true, and-false}
+use Prim.Native.Nat.{ℕ, _*_, _/_, _≤_, _<_}
+use native.Mathlib.Omega.{arith}
+use borrow.Author.Tests.{le-leb, leb-true, lt-ltb, le-ltb}
+use lib.Dec.{ltb}
+use Rattle.rules.specs.Settings.{Settings, Pieces, within, elements, enough, bytes}
+use Rattle.rules.specs.declared.Need.{Need}
+use Rattle.rules.specs.Sizing.{sizing, sizesOf, noSizes}
+use Rattle.rules.specs.Refusal.{unless, stateFits, askedRefusal}
+use Rattle.rules.proofs.Tests.{both-true}
+use Rattle.rules.proofs.Settings.{Good, within-good}
+use Rattle.rules.proofs.Chain.{passed}
+use Rattle.rules.proofs.Promise.{Fits, fits-facts}
+use Rattle.frames.specs.Circle.{Turn}
+use Rattle.store.specs.Admit.{covers, admitted}
+
+-- Each piece is long enough.
+pub record Long (need : Need) (lengths : Pieces) : Type 0 where
+  pub archive : need .archive ≤ lengths .archive
+  pub pool : need .pool ≤ lengths .pool
+  pub groups : need .groups / 4 ≤ lengths .groups
+  pub table : need .table / 2 ≤ lengths .table
+  pub owners : need .owners / 4 ≤ lengths .owners
+  pub history : need .history / 2 ≤ lengths .history
+
+pub covers-long : (n : Need) (p : Pieces) → covers n p ≡ true → Long n p
+unfolding covers
+covers-long n p e =
+    let h = both-true _ _ e in
+    let o = both-true _ _ (h .0) in
+    let t = both-true _ _ (o .0) in
+    let g = both-true _ _ (t .0) in
+    let a = both-true _ _ (g .0) in
+    record {
+      archive = leb-true _ _ (a .0);
+      pool = leb-true _ _ (a .1);
+      groups = leb-true _ _ (g .1);
+      table = leb-true _ _ (t .1);
+      owners = leb-true _ _ (o .1);
+      history = leb-true _ _ (h .1);
+    }
+
+pub long-covers : (n : Need) (p : Pieces) → Long n p → covers n p ≡ true
+unfolding covers
+long-covers n p h =
+    simp (
+      le-leb _ _ (h .archive),
+      le-leb _ _ (h .pool),
+      le-leb _ _ (h .groups),
+      le-leb _ _ (h .table),
+      le-leb _ _ (h .owners),
+      le-leb _ _ (h .history),
+    )
+
+pub not-covers : (n : Need) (p : Pieces) → (Long n p → ⊥) → covers n p ≡ false
+not-covers n p k = go (covers n p) refl
+  where
+    go : (b : Bool) → covers n p ≡ b → b ≡ false
+    go true e = absurd (k (covers-long n p e))
+    go false e = refl
+
+-- What the sizing call says is enough,
+covers-enough : (s : Settings) (p : Pieces) → covers (sizesOf s) p ≡ enough s p
+unfolding covers sizesOf bytes enough elements
+covers-enough s p =
+    simp (quarter (s .frames / 16 * s .lines), half (s .frames * (s .lines / 8)), quarter (s .pages))
+  where
+    quarter : (x : ℕ) → 4 * x / 4 ≡ x
+    quarter x = omega arith
+
+    half : (x : ℕ) → 2 * x / 2 ≡ x
+    half x = omega arith
+
+-- so that 4 and 6 are told from its answer.
+module _ (s : Settings) (p : Pieces) (need : Need) (told : need ≡ sizing s) where
+  pub asked-outside : (need .refusal ≡ 0 → ⊥) → 4 ≡ askedRefusal p s
+  unfolding sizing askedRefusal sizesOf unless
+  asked-outside h = go (within s) refl
+    where
+      go : (b : Bool) → within s ≡ b → 4 ≡ unless b 4 (unless (enough s p) 6 0)
+      go true e = absurd (h (ap (λ (n : Need). n .refusal) told ∙ ap (λ (b : Bool). cond b (sizesOf s) noSizes .refusal) e))
+      go false e = refl
+
+  module _ (given : need .refusal ≡ 0) (b : Bool) (covered : b ≡ covers need p) where
+    asked-inside : askedRefusal p s ≡ unless b 6 0
+    unfolding sizing askedRefusal noSizes unless
+    asked-inside = go (within s) refl
+      where
+        go : (w : Bool) → within s ≡ w → unless w 4 (unless (enough s p) 6 0) ≡ unless b 6 0
+        go true e =
+            let same : need ≡ sizesOf s = told ∙ ap (λ (w : Bool). cond w (sizesOf s) noSizes) e in
+            ap (λ (x : Bool). unless x 6 0) (sym (covered ∙ (ap (λ (n : Need). covers n p) same ∙ covers-enough s p)))
+        go false e =
+            let none : _≡_ {A = ℕ} 4 0 = sym (ap (λ (n : Need). n .refusal) told ∙ ap (λ (w : Bool). cond w (sizesOf s) noSizes .refusal) e) ∙ given in
+            absurd (omega arith)
+
+    pub asked-long : b ≡ true → 0 ≡ askedRefusal p s
+    unfolding unless
+    asked-long t = sym (asked-inside ∙ ap (λ (x : Bool). unless x 6 0) t)
+
+    pub asked-short : b ≡ false → 6 ≡ askedRefusal p s
+    unfolding unless
+    asked-short t = sym (asked-inside ∙ ap (λ (x : Bool). unless x 6 0) t)
+
+-- 5 and 6.
+module _ (s : Settings) (cmf omf : ℕ) (p : Pieces) where
+  pub outside-cmf : s .frames ≤ cmf → 5 ≡ admitted s cmf omf p
+  unfolding admitted stateFits unless
+  outside-cmf h =
+      sym (ap (λ (x : Bool). unless x 5 (unless (enough s p) 6 0)) (ap (λ (x : Bool). within s && (x && ltb omf (s .frames))) (le-ltb cmf (s .frames) h) ∙ and-false (within s)))
+
+  pub outside-omf : s .frames ≤ omf → 5 ≡ admitted s cmf omf p
+  unfolding admitted stateFits unless
+  outside-omf h =
+      sym (ap (λ (x : Bool). unless x 5 (unless (enough s p) 6 0))
+      (ap (λ (x : Bool). within s && (ltb cmf (s .frames) && x)) (le-ltb omf (s .frames) h) ∙ (ap (λ (x : Bool). within s && x) (and-false (ltb cmf (s .frames))) ∙ and-false (within s))))
+
+  module _ (cmf-below : cmf < s .frames) (omf-below : omf < s .frames) where
+    fits-within : stateFits s cmf omf ≡ within s
+    unfolding stateFits
+    fits-within =
+        ap₂ (λ (x y : Bool). within s && (x && y)) (lt-ltb cmf (s .frames) cmf-below) (lt-ltb omf (s .frames) omf-below) ∙ and-true (within s)
+
+    module _ (r : ℕ) (asked : r ≡ askedRefusal p s) where
+      pub outside-limits : r ≡ 4 → 5 ≡ admitted s cmf omf p
+      unfolding askedRefusal admitted unless
+      outside-limits e = go (within s) (enough s p) refl (sym e ∙ asked)
+        where
+          go : (w l : Bool) → within s ≡ w → 4 ≡ unless w 4 (unless l 6 0) → 5 ≡ admitted s cmf omf p
+          go true true d h = absurd (omega arith)
+          go true false d h = absurd (omega arith)
+          go false l d h = sym (ap (λ (x : Bool). unless x 5 (unless (enough s p) 6 0)) (fits-within ∙ d))
+
+      pub admitted-else : (r ≡ 4 → ⊥) → r ≡ admitted s cmf omf p
+      unfolding askedRefusal admitted unless
+      admitted-else e = go (within s) refl asked
+        where
+          go : (w : Bool) → within s ≡ w → r ≡ unless w 4 (unless (enough s p) 6 0) → r ≡ admitted s cmf omf p
+          go true d h = h ∙ sym (ap (λ (x : Bool). unless x 5 (unless (enough s p) 6 0)) (fits-within ∙ d))
+          go false d h = absurd (e h)
+
+-- What an admitted state has.
+pub record Room (s : Settings) (cmf omf : ℕ) : Type 0 where
+  pub fits : Fits s cmf omf
+  pub good : Good s
+
+pub admitted-room : (s : Settings) (cmf omf : ℕ) (p : Pieces) (a : ℕ) → a ≡ admitted s cmf omf p → a ≡ 0 → Room s cmf omf
+unfolding admitted
+admitted-room s cmf omf p a e z =
+    let f = fits-facts s cmf omf (passed (stateFits s cmf omf) 5 (unless (enough s p) 6 0) (omega arith) (sym e ∙ z) .0) in
+    record { fits = f; good = within-good s (f .limits) }
+
+pub room-turn : (s : Settings) (cmf omf : ℕ) → Room s cmf omf → Turn (s .frames) omf cmf
+room-turn s cmf omf r = record { omf-below = r .fits .omf-below; below = r .fits .cmf-below; few = omega (arith, r .good .frames-to) }

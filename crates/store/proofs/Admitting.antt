@@ -14,18 +14,18 @@ use Rattle.rules.proofs.Settings.{Good, within-good}
 use Rattle.rules.proofs.Chain.{passed}
 use Rattle.rules.proofs.Promise.{Fits, fits-facts}
 use Rattle.frames.specs.Circle.{Turn}
-use Rattle.store.specs.Admit.{covers, admitted}
+use Rattle.store.specs.Admit.{covers, inElements, admitted}
 
 -- Each piece is long enough.
-pub record Long (need : Need) (lengths : Pieces) : Type 0 where
-  pub archive : need .archive ≤ lengths .archive
-  pub pool : need .pool ≤ lengths .pool
-  pub groups : need .groups / 4 ≤ lengths .groups
-  pub table : need .table / 2 ≤ lengths .table
-  pub owners : need .owners / 4 ≤ lengths .owners
-  pub history : need .history / 2 ≤ lengths .history
+pub record Long (least lengths : Pieces) : Type 0 where
+  pub archive : least .archive ≤ lengths .archive
+  pub pool : least .pool ≤ lengths .pool
+  pub groups : least .groups ≤ lengths .groups
+  pub table : least .table ≤ lengths .table
+  pub owners : least .owners ≤ lengths .owners
+  pub history : least .history ≤ lengths .history
 
-pub covers-long : (n : Need) (p : Pieces) → covers n p ≡ true → Long n p
+pub covers-long : (n p : Pieces) → covers n p ≡ true → Long n p
 unfolding covers
 covers-long n p e =
     let h = both-true _ _ e in
@@ -42,7 +42,7 @@ covers-long n p e =
       history = leb-true _ _ (h .1);
     }
 
-pub long-covers : (n : Need) (p : Pieces) → Long n p → covers n p ≡ true
+pub long-covers : (n p : Pieces) → Long n p → covers n p ≡ true
 unfolding covers
 long-covers n p h =
     simp (
@@ -54,7 +54,7 @@ long-covers n p h =
       le-leb _ _ (h .history),
     )
 
-pub not-covers : (n : Need) (p : Pieces) → (Long n p → ⊥) → covers n p ≡ false
+pub not-covers : (n p : Pieces) → (Long n p → ⊥) → covers n p ≡ false
 not-covers n p k = go (covers n p) refl
   where
     go : (b : Bool) → covers n p ≡ b → b ≡ false
@@ -62,7 +62,7 @@ not-covers n p k = go (covers n p) refl
     go false e = refl
 
 -- What the sizing call says is enough,
-covers-enough : (s : Settings) (p : Pieces) → covers (sizesOf s) p ≡ enough s p
+covers-enough : (s : Settings) (p : Pieces) → covers (inElements (sizesOf s)) p ≡ enough s p
 unfolding covers sizesOf bytes enough elements
 covers-enough s p =
     simp (quarter (s .frames / 16 * s .lines), half (s .frames * (s .lines / 8)), quarter (s .pages))
@@ -83,7 +83,7 @@ module _ (s : Settings) (p : Pieces) (need : Need) (told : need ≡ sizing s) wh
       go true e = absurd (h (ap (λ (n : Need). n .refusal) told ∙ ap (λ (b : Bool). cond b (sizesOf s) noSizes .refusal) e))
       go false e = refl
 
-  module _ (given : need .refusal ≡ 0) (b : Bool) (covered : b ≡ covers need p) where
+  module _ (given : need .refusal ≡ 0) (b : Bool) (covered : b ≡ covers (inElements need) p) where
     asked-inside : askedRefusal p s ≡ unless b 6 0
     unfolding sizing askedRefusal noSizes unless
     asked-inside = go (within s) refl
@@ -91,7 +91,7 @@ module _ (s : Settings) (p : Pieces) (need : Need) (told : need ≡ sizing s) wh
         go : (w : Bool) → within s ≡ w → unless w 4 (unless (enough s p) 6 0) ≡ unless b 6 0
         go true e =
             let same : need ≡ sizesOf s = told ∙ ap (λ (w : Bool). cond w (sizesOf s) noSizes) e in
-            ap (λ (x : Bool). unless x 6 0) (sym (covered ∙ (ap (λ (n : Need). covers n p) same ∙ covers-enough s p)))
+            ap (λ (x : Bool). unless x 6 0) (sym (covered ∙ (ap (λ (n : Need). covers (inElements n) p) same ∙ covers-enough s p)))
         go false e =
             let none : _≡_ {A = ℕ} 4 0 = sym (ap (λ (n : Need). n .refusal) told ∙ ap (λ (w : Bool). cond w (sizesOf s) noSizes .refusal) e) ∙ given in
             absurd (omega arith)
@@ -141,16 +141,18 @@ module _ (s : Settings) (cmf omf : ℕ) (p : Pieces) where
           go true d h = h ∙ sym (ap (λ (x : Bool). unless x 5 (unless (enough s p) 6 0)) (fits-within ∙ d))
           go false d h = absurd (e h)
 
--- What an admitted state has.
-pub record Room (s : Settings) (cmf omf : ℕ) : Type 0 where
+-- What an admitted state and lent memory have.
+pub record Room (s : Settings) (cmf omf : ℕ) (lengths : Pieces) : Type 0 where
   pub fits : Fits s cmf omf
   pub good : Good s
+  pub long : Long (elements s) lengths
 
-pub admitted-room : (s : Settings) (cmf omf : ℕ) (p : Pieces) (a : ℕ) → a ≡ admitted s cmf omf p → a ≡ 0 → Room s cmf omf
-unfolding admitted
+pub admitted-room : (s : Settings) (cmf omf : ℕ) (p : Pieces) (a : ℕ) → a ≡ admitted s cmf omf p → a ≡ 0 → Room s cmf omf p
+unfolding admitted covers enough
 admitted-room s cmf omf p a e z =
-    let f = fits-facts s cmf omf (passed (stateFits s cmf omf) 5 (unless (enough s p) 6 0) (omega arith) (sym e ∙ z) .0) in
-    record { fits = f; good = within-good s (f .limits) }
+    let t = passed (stateFits s cmf omf) 5 (unless (enough s p) 6 0) (omega arith) (sym e ∙ z) in
+    let f = fits-facts s cmf omf (t .0) in
+    record { fits = f; good = within-good s (f .limits); long = covers-long (elements s) p (passed (enough s p) 6 0 (omega arith) (t .1) .0) }
 
-pub room-turn : (s : Settings) (cmf omf : ℕ) → Room s cmf omf → Turn (s .frames) omf cmf
-room-turn s cmf omf r = record { omf-below = r .fits .omf-below; below = r .fits .cmf-below; few = omega (arith, r .good .frames-to) }
+pub room-turn : (s : Settings) (cmf omf : ℕ) (p : Pieces) → Room s cmf omf p → Turn (s .frames) omf cmf
+room-turn s cmf omf p r = record { omf-below = r .fits .omf-below; below = r .fits .cmf-below; few = omega (arith, r .good .frames-to) }

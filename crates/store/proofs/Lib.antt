@@ -1,3 +1,4 @@
 pub mod Admitting
 pub mod Looking
 pub mod Marking
+pub mod Counting

@@ -18,15 +18,27 @@ piecesOf n =
       history = n .history;
     }
 
--- Each length is what the sizing call says or more, by the count of elements.
-unfoldable pub covers : Need → Pieces → Bool
-covers need lengths =
-    leb (need .archive) (lengths .archive)
-    && leb (need .pool) (lengths .pool)
-    && leb (need .groups / 4) (lengths .groups)
-    && leb (need .table / 2) (lengths .table)
-    && leb (need .owners / 4) (lengths .owners)
-    && leb (need .history / 2) (lengths .history)
+-- What the sizing call says, by the count of elements.
+abbrev pub inElements : Need → Pieces
+inElements need =
+    record {
+      archive = need .archive;
+      pool = need .pool;
+      groups = need .groups / 4;
+      table = need .table / 2;
+      owners = need .owners / 4;
+      history = need .history / 2;
+    }
+
+-- Each length is so much or more.
+unfoldable pub covers : (least lengths : Pieces) → Bool
+covers least lengths =
+    leb (least .archive) (lengths .archive)
+    && leb (least .pool) (lengths .pool)
+    && leb (least .groups) (lengths .groups)
+    && leb (least .table) (lengths .table)
+    && leb (least .owners) (lengths .owners)
+    && leb (least .history) (lengths .history)
 
 unfoldable pub admitted : Settings → (cmf omf : ℕ) → Pieces → ℕ
 admitted s cmf omf lengths = unless (stateFits s cmf omf) 5 (unless (enough s lengths) 6 0)

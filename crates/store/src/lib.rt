@@ -4,12 +4,12 @@ use rules::Need;
 ghost use mathlib.Core.Path.{_≡_};
 ghost use Prim.Native.Nat.{_+_, _%_};
 ghost use Rattle.rules.specs.Sizing.{settingsOf};
-ghost use Rattle.rules.specs.Call.Answer.{outcome};
-ghost use Rattle.rules.specs.Call.Call.{LINE-REFUSAL, MARK};
+ghost use Rattle.rules.specs.Call.Answer.{outcome, counting};
+ghost use Rattle.rules.specs.Call.Call.{LINE-REFUSAL, MARK, COUNTS};
 ghost use Rattle.rules.specs.Refusal.{askedRefusal};
 ghost use Rattle.rules.specs.Promise.{Promise};
 ghost use Rattle.store.specs.Storage.{storageOf, withCmf, store};
-ghost use Rattle.store.specs.Admit.{piecesOf, covers, admitted};
+ghost use Rattle.store.specs.Admit.{piecesOf, inElements, covers, admitted};
 
 // The state goes in by value and comes back by value. It may hold anything: each call tests it first.
 pub struct State {
@@ -35,7 +35,7 @@ struct Lengths {
 
 // Whether each piece is as long as the sizing call says, or longer.
 fn is_covered(need: Need, lengths: Lengths) -> bool
-    ensures { λ r. ⌜ r ≡ covers need (piecesOf lengths) ⌝ }
+    ensures { λ r. ⌜ r ≡ covers (inElements need) (piecesOf lengths) ⌝ }
 {
     if lengths.archive < need.archive {
         return false;
@@ -181,5 +181,61 @@ pub fn mark(
     Outcome {
         state: with_cmf(state, next),
         refusal: 0,
+    }
+}
+
+// The live frames and the pages needed, with the refusal or 0.
+pub struct Counted {
+    pub refusal: u32,
+    pub live: u32,
+    pub pages: u32,
+}
+
+// COUNTS: the pages needed are those held, which their owners confirm.
+pub fn counts(
+    state: State,
+    archive: &[u8],
+    pool: &[u8],
+    groups: &[u32],
+    table: &[u16],
+    owners: &[u32],
+    history: &[u16],
+) -> Counted
+    ensures { λ r. ⌜ Promise store COUNTS
+        (storageOf state (now (archive .entry)) (now (pool .entry)) (now (groups .entry)) (now (table .entry)) (now (owners .entry)) (now (history .entry)))
+        (counting (r .refusal) (r .live) (r .pages))
+        (storageOf state (now (archive .entry)) (now (pool .entry)) (now (groups .entry)) (now (table .entry)) (now (owners .entry)) (now (history .entry))) ⌝ }
+{
+    let lengths = Lengths {
+        archive: archive.len(),
+        pool: pool.len(),
+        groups: groups.len(),
+        table: table.len(),
+        owners: owners.len(),
+        history: history.len(),
+    };
+    let refusal = admit(state, lengths);
+    if refusal != 0 {
+        return Counted {
+            refusal,
+            live: 0,
+            pages: 0,
+        };
+    }
+    let live = frames::live(state.cmf, state.omf, state.frames);
+    let pages = pages::table::count_held(
+        groups,
+        history,
+        table,
+        owners,
+        state.lines,
+        state.frames,
+        state.omf,
+        state.pages,
+    );
+    Counted {
+        refusal: 0,
+        live,
+        pages,
     }
 }

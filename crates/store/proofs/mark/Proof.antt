@@ -13,7 +13,7 @@ returns : tie.Need-returns
 returns c = (mark-refused _ _ (c .before .admit .ensures) (c .if1 .taken), λ z. absurd (c .if1 .taken z))
 
 live-requires : tie.Need-live-requires
-live-requires c κs = room-turn _ _ _ (admitted-room _ _ _ _ _ (c .before .admit .ensures) (c .if1 .left))
+live-requires c κs = room-turn _ _ _ _ (admitted-room _ _ _ _ _ (c .before .admit .ensures) (c .if1 .left))
 
 returns-2 : tie.Need-returns-2
 returns-2 c = (mark-full _ _ (c .before .before .before .before .admit .ensures) (c .before .before .before .if1 .left) _ (c .before .before .live .ensures) (c .if2 .taken), λ z. absurd (omega arith))

@@ -87,7 +87,7 @@ pastIn n m =
       history = drop (n .history) (m .history);
     }
 
--- The index from OMF of the frame that lies j marks back, and the frame's own number.
+-- The index from OMF of the frame that lies j marks back.
 abbrev pub indexBack : State → ℕ → ℕ
 indexBack s j = liveIn s - 1 - j
 

@@ -18,7 +18,7 @@ use Rattle.frames.specs.Circle.{frameAt}
 use Rattle.written.specs.Bits.{Written, writtenOf, effective}
 use Rattle.written.specs.Well.{WellBits}
 use Rattle.pages.specs.Lines.{pageLine, archiveLine}
-use Rattle.pages.specs.Table.{Confirmed, neededAt, placesOf}
+use Rattle.pages.specs.Table.{Confirmed, neededAt, placeAt, placesOf}
 use Rattle.cache.specs.Entries.{All}
 use Rattle.cache.specs.Steps.{archive}
 use Rattle.cache.specs.Shown.{shown}
@@ -91,13 +91,10 @@ pastIn n m =
 abbrev pub indexBack : State → ℕ → ℕ
 indexBack s j = liveIn s - 1 - j
 
--- Where the page table has the page of a frame and a line.
-abbrev pub placeIn : State → (index line : ℕ) → ℕ
-placeIn s i l = frameAt (s .frames) (s .omf) i * (s .lines / 8) + l / 8
-
--- A version in the pool.
+-- A version in the pool: in the page of its frame and block.
 unfoldable pub versionAt : Storage → (index line : ℕ) → Line
-versionAt x i l = pageLine (x .memory .pool) (getD (x .memory .table) (placeIn (x .state) i l) 0) (l % 8)
+versionAt x i l =
+    pageLine (x .memory .pool) (getD (x .memory .table) (placeAt (writtenIn x) (frameAt (x .state .frames) (x .state .omf) i) (l / 8)) 0) (l % 8)
 
 -- Figure 2's frames: a line of a live frame is written if its bit is effective.
 unfoldable pub frameIn : Storage → (back line : ℕ) → Option Line

@@ -181,3 +181,7 @@ pub window-fits : (n omf area g from end s u a b : ℕ) → s ≡ indexOf n omf 
     → b ≡ afterWrap g u from end → Fits w32 (a + b)
 window-fits n omf area g from end s u a b es eu ea eb =
     record { fits = omega (arith, window-small n omf area g from end, window-told n omf area g from end s u a b es eu ea eb) }
+
+-- the same of a result that is a window
+pub small-window : (n omf area g from end r : ℕ) → r ≡ windowOf n omf area g from end → r < 65536
+small-window n omf area g from end r e = omega (arith, window-small n omf area g from end)

@@ -1,6 +1,6 @@
 -- `written::without` meets its contract. Assumes nothing.
 use native.Mathlib.Omega.{arith}
-use Rattle.written.proofs.Windows.{window-small}
+use Rattle.written.proofs.Windows.{small-window}
 use borrow.Author.Needs.{needs}
 use Rattle.written.proofs.without.Statement.{statement}
 use Rattle.written.proofs.without.Tie as tie
@@ -12,7 +12,7 @@ window-requires : tie.Need-window-requires
 window-requires c κs = search needs
 
 add-result : tie.Need-add-result
-add-result c = omega (arith, c .window .ensures, window-small (c .before .args .frames) (c .before .args .omf) (c .before .args .area) (c .before .args .group) (c .before .args .k) (c .before .args .frames))
+add-result c = omega (arith, small-window _ _ _ _ _ _ _ (c .window .ensures))
 
 returns : tie.Need-returns
 returns c = search needs

@@ -1,4 +1,0 @@
-pub mod Admitting
-pub mod Looking
-pub mod Marking
-pub mod Counting

@@ -1,93 +1,12 @@
 // The store: every call of document 01, in memory that the caller lends.
 use cache::Cache;
-use rules::Need;
+pub use storage::State;
 ghost use mathlib.Core.Path.{_≡_};
-ghost use Prim.Native.Nat.{_+_, _%_};
-ghost use Rattle.rules.specs.Sizing.{settingsOf};
 ghost use Rattle.rules.specs.Call.Answer.{outcome, counting};
-ghost use Rattle.rules.specs.Call.Call.{LINE-REFUSAL, MARK, COUNTS};
-ghost use Rattle.rules.specs.Refusal.{askedRefusal};
+ghost use Rattle.rules.specs.Call.Call.{LINE-REFUSAL, MARK, ROLLBACK, COUNTS};
 ghost use Rattle.rules.specs.Promise.{Promise};
-ghost use Rattle.store.specs.Storage.{storageOf, withCmf, store};
-ghost use Rattle.store.specs.Admit.{piecesOf, inElements, covers, admitted};
-
-// The state goes in by value and comes back by value. It may hold anything: each call tests it first.
-pub struct State {
-    pub lines: u32,
-    pub frames: u32,
-    pub pages: u32,
-    pub cmf: u32,
-    pub omf: u32,
-    pub tag: u32,
-    pub hint: u32,
-    pub cache: Cache,
-}
-
-// The lengths of the lent pieces, in elements.
-struct Lengths {
-    archive: usize,
-    pool: usize,
-    groups: usize,
-    table: usize,
-    owners: usize,
-    history: usize,
-}
-
-// Whether each piece is as long as the sizing call says, or longer.
-fn is_covered(need: Need, lengths: Lengths) -> bool
-    ensures { λ r. ⌜ r ≡ covers (inElements need) (piecesOf lengths) ⌝ }
-{
-    if lengths.archive < need.archive {
-        return false;
-    }
-    if lengths.pool < need.pool {
-        return false;
-    }
-    if lengths.groups < need.groups / 4 {
-        return false;
-    }
-    if lengths.table < need.table / 2 {
-        return false;
-    }
-    if lengths.owners < need.owners / 4 {
-        return false;
-    }
-    if lengths.history < need.history / 2 {
-        return false;
-    }
-    true
-}
-
-// 4 and 6, for the settings asked for.
-fn asked_refusal(lines: u32, frames: u32, pages: u32, lengths: Lengths) -> u32
-    ensures { λ r. ⌜ r ≡ askedRefusal (piecesOf lengths) (settingsOf lines frames pages) ⌝ }
-{
-    let need = rules::sizes(lines, frames, pages);
-    if need.refusal != 0 {
-        return 4;
-    }
-    if is_covered(need, lengths) {
-        return 0;
-    }
-    6
-}
-
-// 5 and 6, which every call but RESET tests first.
-fn admit(state: State, lengths: Lengths) -> u32
-    ensures { λ r. ⌜ r ≡ admitted (settingsOf (state .lines) (state .frames) (state .pages)) (state .cmf) (state .omf) (piecesOf lengths) ⌝ }
-{
-    if state.frames <= state.cmf {
-        return 5;
-    }
-    if state.frames <= state.omf {
-        return 5;
-    }
-    let refusal = asked_refusal(state.lines, state.frames, state.pages, lengths);
-    if refusal == 4 {
-        return 5;
-    }
-    refusal
-}
+ghost use Rattle.storage.specs.Storage.{storageOf, store};
+ghost use Rattle.storage.specs.Steps.{stateWith, markedState, RolledTo};
 
 // LINE's companion: the refusal of `line` on the same arguments, or 0.
 pub fn line_refusal(
@@ -105,22 +24,8 @@ pub fn line_refusal(
         (outcome r)
         (storageOf state (now (archive .entry)) (now (pool .entry)) (now (groups .entry)) (now (table .entry)) (now (owners .entry)) (now (history .entry))) ⌝ }
 {
-    let lengths = Lengths {
-        archive: archive.len(),
-        pool: pool.len(),
-        groups: groups.len(),
-        table: table.len(),
-        owners: owners.len(),
-        history: history.len(),
-    };
-    let refusal = admit(state, lengths);
-    if refusal != 0 {
-        return refusal;
-    }
-    if line < state.lines {
-        return 0;
-    }
-    9
+    let lengths = storage::measure(archive, pool, groups, table, owners, history);
+    storage::admit_line(state, lengths, line)
 }
 
 // The state after a call, and its refusal or 0.
@@ -129,19 +34,18 @@ pub struct Outcome {
     pub refusal: u32,
 }
 
-// The state with another CMF.
-fn with_cmf(state: State, cmf: u32) -> State
-    ensures { λ r. ⌜ r ≡ withCmf state cmf ⌝ }
+// The state with other registers, tag, hint and cache.
+fn state_with(state: State, cmf: u32, omf: u32, tag: u32, hint: u32, cache: Cache) -> State
+    ensures { λ r. ⌜ r ≡ stateWith state cmf omf tag hint cache ⌝ }
 {
-    let cache = state.cache;
     State {
         lines: state.lines,
         frames: state.frames,
         pages: state.pages,
         cmf,
-        omf: state.omf,
-        tag: state.tag,
-        hint: state.hint,
+        omf,
+        tag,
+        hint,
         cache,
     }
 }
@@ -160,26 +64,17 @@ pub fn mark(
         (storageOf state (now (archive .entry)) (now (pool .entry)) (now (groups .entry)) (now (table .entry)) (now (owners .entry)) (now (history .entry)))
         (outcome (r .refusal))
         (storageOf (r .state) (now (archive .entry)) (now (pool .entry)) (now (groups .entry)) (now (table .entry)) (now (owners .entry)) (now (history .entry))))
-        × (r .refusal ≡ 0 → r .state ≡ withCmf state ((state .cmf + 1) % state .frames)) ⌝ }
+        × (r .refusal ≡ 0 → r .state ≡ markedState state) ⌝ }
 {
-    let lengths = Lengths {
-        archive: archive.len(),
-        pool: pool.len(),
-        groups: groups.len(),
-        table: table.len(),
-        owners: owners.len(),
-        history: history.len(),
-    };
-    let refusal = admit(state, lengths);
+    let lengths = storage::measure(archive, pool, groups, table, owners, history);
+    let refusal = storage::admit_mark(state, lengths);
     if refusal != 0 {
         return Outcome { state, refusal };
     }
-    if frames::live(state.cmf, state.omf, state.frames) == state.frames {
-        return Outcome { state, refusal: 12 };
-    }
+    let held = state.cache;
     let next = (state.cmf + 1) % state.frames;
     Outcome {
-        state: with_cmf(state, next),
+        state: state_with(state, next, state.omf, state.tag, state.hint, held),
         refusal: 0,
     }
 }
@@ -206,15 +101,8 @@ pub fn counts(
         (counting (r .refusal) (r .live) (r .pages))
         (storageOf state (now (archive .entry)) (now (pool .entry)) (now (groups .entry)) (now (table .entry)) (now (owners .entry)) (now (history .entry))) ⌝ }
 {
-    let lengths = Lengths {
-        archive: archive.len(),
-        pool: pool.len(),
-        groups: groups.len(),
-        table: table.len(),
-        owners: owners.len(),
-        history: history.len(),
-    };
-    let refusal = admit(state, lengths);
+    let lengths = storage::measure(archive, pool, groups, table, owners, history);
+    let refusal = storage::admit(state, lengths);
     if refusal != 0 {
         return Counted {
             refusal,
@@ -237,5 +125,46 @@ pub fn counts(
         refusal: 0,
         live,
         pages,
+    }
+}
+
+// ROLLBACK: drops the k newest frames. No written bit is cleared: the history masks them, and the next tag is free of them.
+pub fn rollback(
+    state: State,
+    archive: &[u8],
+    pool: &[u8],
+    groups: &mut [u32],
+    table: &[u16],
+    owners: &[u32],
+    history: &mut [u16],
+    k: u32,
+) -> Outcome
+    ensures { λ r. ⌜ (Promise store (ROLLBACK k)
+        (storageOf state (now (archive .entry)) (now (pool .entry)) (now (groups .entry)) (now (table .entry)) (now (owners .entry)) (now (history .entry)))
+        (outcome (r .refusal))
+        (storageOf (r .state) (now (archive .entry)) (now (pool .entry)) (now (groups .exit)) (now (table .entry)) (now (owners .entry)) (now (history .exit))))
+        × (r .refusal ≡ 0 → RolledTo state (now (groups .entry)) (now (history .entry)) k (r .state) (now (groups .exit)) (now (history .exit))) ⌝ }
+{
+    let lengths = storage::measure(archive, pool, groups, table, owners, history);
+    let refusal = storage::admit_frames(state, lengths, k);
+    if refusal != 0 {
+        return Outcome { state, refusal };
+    }
+    let kept = frames::live(state.cmf, state.omf, state.frames) - k;
+    let tag = written::rollback(
+        groups,
+        history,
+        state.lines,
+        state.frames,
+        state.omf,
+        state.tag % 256,
+        kept as u16,
+    );
+    let held = state.cache;
+    let cmf = (state.cmf + state.frames - k) % state.frames;
+    let cache = cache::forget(held, state.omf, state.frames, kept);
+    Outcome {
+        state: state_with(state, cmf, state.omf, tag, state.hint, cache),
+        refusal: 0,
     }
 }

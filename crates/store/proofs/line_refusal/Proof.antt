@@ -1,20 +1,18 @@
 -- `store::line_refusal` meets its contract. Assumes nothing.
 use borrow.Author.Needs.{needs}
-use Rattle.store.proofs.Looking.{companion-refused, companion-accepts, companion-past}
+use Rattle.storage.proofs.Chains.{measured}
+use Rattle.storage.proofs.Looking.{companion}
 use Rattle.store.proofs.line_refusal.Statement.{statement}
 use Rattle.store.proofs.line_refusal.Tie as tie
 
-admit-requires : tie.Need-admit-requires
-admit-requires c κs = search needs
+measure-requires : tie.Need-measure-requires
+measure-requires c κs = search needs
+
+admit-line-requires : tie.Need-admit-line-requires
+admit-line-requires c κs = search needs
 
 returns : tie.Need-returns
-returns c = companion-refused _ _ _ (c .before .admit .ensures) (c .if1 .taken)
-
-returns-2 : tie.Need-returns-2
-returns-2 c = companion-accepts _ _ _ (c .before .before .before .admit .ensures) (c .before .before .if1 .left) (c .if2 .taken)
-
-returns-3 : tie.Need-returns-3
-returns-3 c = companion-past _ _ _ (c .before .before .before .admit .ensures) (c .before .before .if1 .left) (c .if2 .left)
+returns c = companion _ _ _ (measured _ _ _ _ _ _ _ (c .before .measure .ensures) (c .admit-line .ensures))
 
 pub line-refusal-spec : {M : Type 1} → statement M
-line-refusal-spec = tie.close (tie.spec admit-requires returns returns-2 returns-3)
+line-refusal-spec = tie.close (tie.spec measure-requires admit-line-requires returns)

@@ -1,0 +1,193 @@
+-- The tests of the settings, the state and the lent lengths, as linear facts. Assumes nothing.
+use mathlib.Core.Path.{_≡_, refl, sym, _∙_, ap, ap₂}
+use mathlib.Core.Bool.{Bool, true, false, cond, _&&_, and-true, and-false}
+use mathlib.Core.List.{List}
+use Prim.Native.Nat.{ℕ, _*_, _/_, _≤_, _<_}
+use native.Mathlib.Omega.{arith}
+use borrow.Author.Tests.{le-leb, leb-true, lt-ltb, le-ltb}
+use lib.Dec.{ltb}
+use lib.ListN.{length}
+use Rattle.rules.specs.Settings.{Settings, Pieces, within, elements, enough, bytes}
+use Rattle.rules.specs.declared.Need.{Need}
+use Rattle.rules.specs.Sizing.{sizing, sizesOf, noSizes}
+use Rattle.rules.specs.Refusal.{unless, stateFits, askedRefusal}
+use Rattle.rules.proofs.Tests.{both-true}
+use Rattle.rules.proofs.Settings.{Good, within-good}
+use Rattle.rules.proofs.Chain.{passed}
+use Rattle.rules.proofs.Promise.{Fits, fits-facts}
+use Rattle.frames.specs.Circle.{Turn}
+use Rattle.written.specs.Bits.{writtenOf, Lent}
+use Rattle.pages.specs.Table.{AsksTable}
+use Rattle.storage.specs.Admit.{covers, inElements, admitted}
+
+-- Each piece is long enough.
+pub record Long (least lengths : Pieces) : Type 0 where
+  pub archive : least .archive ≤ lengths .archive
+  pub pool : least .pool ≤ lengths .pool
+  pub groups : least .groups ≤ lengths .groups
+  pub table : least .table ≤ lengths .table
+  pub owners : least .owners ≤ lengths .owners
+  pub history : least .history ≤ lengths .history
+
+pub covers-long : (n p : Pieces) → covers n p ≡ true → Long n p
+unfolding covers
+covers-long n p e =
+    let h = both-true _ _ e in
+    let o = both-true _ _ (h .0) in
+    let t = both-true _ _ (o .0) in
+    let g = both-true _ _ (t .0) in
+    let a = both-true _ _ (g .0) in
+    record {
+      archive = leb-true _ _ (a .0);
+      pool = leb-true _ _ (a .1);
+      groups = leb-true _ _ (g .1);
+      table = leb-true _ _ (t .1);
+      owners = leb-true _ _ (o .1);
+      history = leb-true _ _ (h .1);
+    }
+
+pub long-covers : (n p : Pieces) → Long n p → covers n p ≡ true
+unfolding covers
+long-covers n p h =
+    simp (
+      le-leb _ _ (h .archive),
+      le-leb _ _ (h .pool),
+      le-leb _ _ (h .groups),
+      le-leb _ _ (h .table),
+      le-leb _ _ (h .owners),
+      le-leb _ _ (h .history),
+    )
+
+pub not-covers : (n p : Pieces) → (Long n p → ⊥) → covers n p ≡ false
+not-covers n p k = go (covers n p) refl
+  where
+    go : (b : Bool) → covers n p ≡ b → b ≡ false
+    go true e = absurd (k (covers-long n p e))
+    go false e = refl
+
+-- What the sizing call says is enough,
+covers-enough : (s : Settings) (p : Pieces) → covers (inElements (sizesOf s)) p ≡ enough s p
+unfolding covers sizesOf bytes enough elements
+covers-enough s p =
+    simp (quarter (s .frames / 16 * s .lines), half (s .frames * (s .lines / 8)), quarter (s .pages))
+  where
+    quarter : (x : ℕ) → 4 * x / 4 ≡ x
+    quarter x = omega arith
+
+    half : (x : ℕ) → 2 * x / 2 ≡ x
+    half x = omega arith
+
+-- so that 4 and 6 are told from its answer.
+module _ (s : Settings) (p : Pieces) (need : Need) (told : need ≡ sizing s) where
+  pub asked-outside : (need .refusal ≡ 0 → ⊥) → 4 ≡ askedRefusal p s
+  unfolding sizing askedRefusal sizesOf unless
+  asked-outside h = go (within s) refl
+    where
+      go : (b : Bool) → within s ≡ b → 4 ≡ unless b 4 (unless (enough s p) 6 0)
+      go true e = absurd (h (ap (λ (n : Need). n .refusal) told ∙ ap (λ (b : Bool). cond b (sizesOf s) noSizes .refusal) e))
+      go false e = refl
+
+  module _ (given : need .refusal ≡ 0) (b : Bool) (covered : b ≡ covers (inElements need) p) where
+    asked-inside : askedRefusal p s ≡ unless b 6 0
+    unfolding sizing askedRefusal noSizes unless
+    asked-inside = go (within s) refl
+      where
+        go : (w : Bool) → within s ≡ w → unless w 4 (unless (enough s p) 6 0) ≡ unless b 6 0
+        go true e =
+            let same : need ≡ sizesOf s = told ∙ ap (λ (w : Bool). cond w (sizesOf s) noSizes) e in
+            ap (λ (x : Bool). unless x 6 0) (sym (covered ∙ (ap (λ (n : Need). covers (inElements n) p) same ∙ covers-enough s p)))
+        go false e =
+            let none : _≡_ {A = ℕ} 4 0 = sym (ap (λ (n : Need). n .refusal) told ∙ ap (λ (w : Bool). cond w (sizesOf s) noSizes .refusal) e) ∙ given in
+            absurd (omega arith)
+
+    pub asked-long : b ≡ true → 0 ≡ askedRefusal p s
+    unfolding unless
+    asked-long t = sym (asked-inside ∙ ap (λ (x : Bool). unless x 6 0) t)
+
+    pub asked-short : b ≡ false → 6 ≡ askedRefusal p s
+    unfolding unless
+    asked-short t = sym (asked-inside ∙ ap (λ (x : Bool). unless x 6 0) t)
+
+-- 5 and 6.
+module _ (s : Settings) (cmf omf : ℕ) (p : Pieces) where
+  pub outside-cmf : s .frames ≤ cmf → 5 ≡ admitted s cmf omf p 0
+  unfolding admitted stateFits unless
+  outside-cmf h =
+      sym (ap (λ (x : Bool). unless x 5 (unless (enough s p) 6 0)) (ap (λ (x : Bool). within s && (x && ltb omf (s .frames))) (le-ltb cmf (s .frames) h) ∙ and-false (within s)))
+
+  pub outside-omf : s .frames ≤ omf → 5 ≡ admitted s cmf omf p 0
+  unfolding admitted stateFits unless
+  outside-omf h =
+      sym (ap (λ (x : Bool). unless x 5 (unless (enough s p) 6 0))
+      (ap (λ (x : Bool). within s && (ltb cmf (s .frames) && x)) (le-ltb omf (s .frames) h) ∙ (ap (λ (x : Bool). within s && x) (and-false (ltb cmf (s .frames))) ∙ and-false (within s))))
+
+  module _ (cmf-below : cmf < s .frames) (omf-below : omf < s .frames) where
+    fits-within : stateFits s cmf omf ≡ within s
+    unfolding stateFits
+    fits-within =
+        ap₂ (λ (x y : Bool). within s && (x && y)) (lt-ltb cmf (s .frames) cmf-below) (lt-ltb omf (s .frames) omf-below) ∙ and-true (within s)
+
+    module _ (r : ℕ) (asked : r ≡ askedRefusal p s) where
+      pub outside-limits : r ≡ 4 → 5 ≡ admitted s cmf omf p 0
+      unfolding askedRefusal admitted unless
+      outside-limits e = go (within s) (enough s p) refl (sym e ∙ asked)
+        where
+          go : (w l : Bool) → within s ≡ w → 4 ≡ unless w 4 (unless l 6 0) → 5 ≡ admitted s cmf omf p 0
+          go true true d h = absurd (omega arith)
+          go true false d h = absurd (omega arith)
+          go false l d h = sym (ap (λ (x : Bool). unless x 5 (unless (enough s p) 6 0)) (fits-within ∙ d))
+
+      pub admitted-else : (r ≡ 4 → ⊥) → r ≡ admitted s cmf omf p 0
+      unfolding askedRefusal admitted unless
+      admitted-else e = go (within s) refl asked
+        where
+          go : (w : Bool) → within s ≡ w → r ≡ unless w 4 (unless (enough s p) 6 0) → r ≡ admitted s cmf omf p 0
+          go true d h = h ∙ sym (ap (λ (x : Bool). unless x 5 (unless (enough s p) 6 0)) (fits-within ∙ d))
+          go false d h = absurd (e h)
+
+-- What an admitted state and lent memory have.
+pub record Room (s : Settings) (cmf omf : ℕ) (lengths : Pieces) : Type 0 where
+  pub fits : Fits s cmf omf
+  pub good : Good s
+  pub long : Long (elements s) lengths
+
+pub admitted-room : (s : Settings) (cmf omf : ℕ) (p : Pieces) (a rest : ℕ) → a ≡ admitted s cmf omf p rest → a ≡ 0 → Room s cmf omf p
+unfolding admitted covers enough
+admitted-room s cmf omf p a rest e z =
+    let t = passed (stateFits s cmf omf) 5 (unless (enough s p) 6 rest) (omega arith) (sym e ∙ z) in
+    let f = fits-facts s cmf omf (t .0) in
+    record { fits = f; good = within-good s (f .limits); long = covers-long (elements s) p (passed (enough s p) 6 rest (omega arith) (t .1) .0) }
+
+-- What the layers ask, of an admitted state and lent memory.
+module _ (s : Settings) (cmf omf : ℕ) (p : Pieces) (r : Room s cmf omf p) where
+  pub room-turn : Turn (s .frames) omf cmf
+  room-turn = record { omf-below = r .fits .omf-below; below = r .fits .cmf-below; few = omega (arith, r .good .frames-to) }
+
+  pub room-circle : Turn (s .frames) omf omf
+  room-circle = record { omf-below = r .fits .omf-below; below = r .fits .omf-below; few = omega (arith, r .good .frames-to) }
+
+module _ (s : Settings) (cmf omf archive pool table owners : ℕ) (groups history : List ℕ)
+    (r : Room s cmf omf (record { archive = archive; pool = pool; groups = length groups; table = table; owners = owners; history = length history })) where
+  pub room-lent : Lent (writtenOf (s .lines) (s .frames) omf groups history)
+  unfolding elements
+  room-lent =
+      record {
+        lines-some = omega (arith, r .good .lines-from);
+        lines-few = r .good .lines-to;
+        frames-by = r .good .frames-by;
+        frames-few = omega (arith, r .good .frames-to);
+        omf-below = r .fits .omf-below;
+        groups-long = r .long .groups;
+        history-long = r .long .history;
+      }
+
+module _ (s : Settings) (cmf omf archive pool owners : ℕ) (groups table history : List ℕ)
+    (r : Room s cmf omf (record { archive = archive; pool = pool; groups = length groups; table = length table; owners = owners; history = length history })) where
+  pub room-table : AsksTable (writtenOf (s .lines) (s .frames) omf groups history) table
+  unfolding elements
+  room-table =
+      record { lent = room-lent s cmf omf archive pool (length table) owners groups history r; lines-by = r .good .lines-by; lines-from = r .good .lines-from; table-long = r .long .table }
+
+  pub room-pages : AsksTable (writtenOf (s .lines) (s .frames) omf groups history) table × (s .pages ≤ owners)
+  unfolding elements
+  room-pages = (room-table, r .long .owners)

@@ -1,0 +1,224 @@
+-- A chain of tests before the rest of a call's refusals, and the returns of the functions that make the tests. Assumes nothing.
+use mathlib.Core.Path.{_≡_, refl, sym, _∙_, ap, ap₂, subst}
+use mathlib.Core.Logic.{_≢_, _⊎_, inl, inr}
+use mathlib.Core.Bool.{Bool, true, false, not, _&&_, _||_, and-false, false≢true}
+use Prim.Native.Nat.{ℕ, _+_, _-_, _*_, _%_, _^_, _≤_, _<_}
+use native.Mathlib.Omega.{arith}
+use borrow.Author.Tests.{not-true, not-false, eqb-true, eqb-false, lt-ltb, le-ltb, le-leb, lt-leb, eq-eqb, ne-eqb}
+use lib.Dec.{ltb, leb, eqb}
+use Rattle.rules.specs.Settings.{Settings, Pieces, enough}
+use Rattle.rules.specs.Refusal.{unless, liveFrames, stateFits, isWidth, lineRefusal, markedRefusal, placeRefusal, writeRefusal}
+use Rattle.rules.proofs.Chain.{fails, passes, passed, place-passed, marked-passed}
+use Rattle.rules.proofs.Circle.{live-some, live-at-most}
+use Rattle.storage.specs.Admit.{admitted}
+use Rattle.storage.proofs.Admitting.{Room, admitted-room}
+
+-- Tests in a row either pass, and the rest decides, or give one refusal whatever comes after them.
+abbrev Links : (ℕ → ℕ) → Type 0
+Links G = ((rest : ℕ) → G rest ≡ rest) ⊎ ((n : ℕ) × (n ≢ 0) × ((rest : ℕ) → G rest ≡ n))
+
+link : (b : Bool) (n : ℕ) → n ≢ 0 → Links (unless b n)
+unfolding unless
+link true n h = inl (λ rest. refl)
+link false n h = inr (n, h, λ rest. refl)
+
+join : (G H : ℕ → ℕ) → Links G → Links H → Links (λ rest. G (H rest))
+join G H (inl g) (inl h) = inl (λ rest. g (H rest) ∙ h rest)
+join G H (inl g) (inr h) = inr (h .0, h .1, λ rest. g (H rest) ∙ h .2 rest)
+join G H (inr g) h = inr (g .0, g .1, λ rest. g .2 (H rest))
+
+turned : (G : ℕ → ℕ) → Links G → (a rest : ℕ) → a ≡ G 0 → a ≢ 0 → a ≡ G rest
+turned G (inl g) a rest e z = absurd (z (e ∙ g 0))
+turned G (inr g) a rest e z = e ∙ (g .2 0 ∙ sym (g .2 rest))
+
+passes-on : (G : ℕ → ℕ) → Links G → (a : ℕ) → a ≡ G 0 → a ≡ 0 → (r rest : ℕ) → r ≡ rest → r ≡ G rest
+passes-on G (inl g) a e z r rest d = d ∙ sym (g rest)
+passes-on G (inr g) a e z r rest d = absurd (g .1 (sym (g .2 0) ∙ (sym e ∙ z)))
+
+pub width-few : (w : ℕ) → isWidth w ≡ true → (0 < w) × (w ≤ 4)
+unfolding isWidth
+width-few w h = go (eqb w 1) (eqb w 2) (eqb w 4) refl refl refl h
+  where
+    go : (a b c : Bool) → eqb w 1 ≡ a → eqb w 2 ≡ b → eqb w 4 ≡ c → (a || b || c) ≡ true → (0 < w) × (w ≤ 4)
+    go true b c p q r h = rw (eqb-true w 1 p) (omega arith, omega arith)
+    go false true c p q r h = rw (eqb-true w 2 q) (omega arith, omega arith)
+    go false false true p q r h = rw (eqb-true w 4 r) (omega arith, omega arith)
+    go false false false p q r h = absurd (false≢true h)
+
+-- The width's test and the value's, in the form in which the code has them.
+module _ (w : ℕ) where
+  pub width-is : (w ≡ 1) ⊎ ((w ≡ 2) ⊎ (w ≡ 4)) → true ≡ isWidth w
+  unfolding isWidth
+  width-is (inl h) = rw h refl
+  width-is (inr (inl h)) = rw h refl
+  width-is (inr (inr h)) = rw h refl
+
+  pub width-none : w ≢ 1 → w ≢ 2 → w ≢ 4 → false ≡ isWidth w
+  unfolding isWidth
+  width-none a b c = sym (ap₂ (λ (s t : Bool). s || t || eqb w 4) (ne-eqb w 1 a) (ne-eqb w 2 b) ∙ ne-eqb w 4 c)
+
+  module _ (v : ℕ) where
+    pub value-below : (n : ℕ) → w ≡ n → v < 256 ^ n → true ≡ ltb v (256 ^ w)
+    value-below n e h = sym (lt-ltb v (256 ^ w) (subst (λ (m : ℕ). v < 256 ^ m) (sym e) h))
+
+    pub value-above : (n : ℕ) → w ≡ n → 256 ^ n ≤ v → false ≡ ltb v (256 ^ w)
+    value-above n e h = sym (le-ltb v (256 ^ w) (subst (λ (m : ℕ). 256 ^ m ≤ v) (sym e) h))
+
+    pub value-four : isWidth w ≡ true → w ≢ 1 → w ≢ 2 → v < 4294967296 → true ≡ ltb v (256 ^ w)
+    value-four h a b small = value-below 4 (four (eqb w 4) refl) small
+      where
+        four : (t : Bool) → eqb w 4 ≡ t → w ≡ 4
+        four true e = eqb-true w 4 e
+        four false e = absurd (false≢true (width-none a b (eqb-false w 4 e) ∙ h))
+
+-- The lengths measured are the lent pieces'.
+pub measured : (s : Settings) (cmf omf a rest : ℕ) (p n : Pieces) → p ≡ n → a ≡ admitted s cmf omf p rest → a ≡ admitted s cmf omf n rest
+measured s cmf omf a rest p n e told = told ∙ ap (λ (m : Pieces). admitted s cmf omf m rest) e
+
+module _ (s : Settings) (cmf omf : ℕ) (p : Pieces) where
+  admitted-links : Links (admitted s cmf omf p)
+  unfolding admitted
+  admitted-links =
+      join (unless (stateFits s cmf omf) 5) (unless (enough s p) 6) (link (stateFits s cmf omf) 5 (λ e. omega arith)) (link (enough s p) 6 (λ e. omega arith))
+
+  place-links : (w a : ℕ) → Links (placeRefusal s w a)
+  unfolding placeRefusal
+  place-links w a =
+      join (unless (isWidth w) 7) (λ rest. unless (eqb (a % w) 0) 8 (unless (leb (a + w) (16 * s .lines)) 9 rest)) (link (isWidth w) 7 (λ e. omega arith))
+      (join (unless (eqb (a % w) 0) 8) (unless (leb (a + w) (16 * s .lines)) 9) (link (eqb (a % w) 0) 8 (λ e. omega arith)) (link (leb (a + w) (16 * s .lines)) 9 (λ e. omega arith)))
+
+  -- no refusal: the rest refuses nothing either
+  pub admitted-rest : (a rest : ℕ) → a ≡ admitted s cmf omf p rest → a ≡ 0 → rest ≡ 0
+  unfolding admitted
+  admitted-rest a rest e z =
+      passed (enough s p) 6 rest (omega arith) (passed (stateFits s cmf omf) 5 (unless (enough s p) 6 rest) (omega arith) (sym e ∙ z) .1) .1
+
+  module _ (a : ℕ) (told : a ≡ admitted s cmf omf p 0) where
+    pub admitted-turned : (rest : ℕ) → a ≢ 0 → a ≡ admitted s cmf omf p rest
+    admitted-turned rest z = turned (admitted s cmf omf p) admitted-links a rest told z
+
+    module _ (z : a ≡ 0) where
+      on : (r rest : ℕ) → r ≡ rest → r ≡ admitted s cmf omf p rest
+      on = passes-on (admitted s cmf omf p) admitted-links a told z
+
+      pub lines-in : 16 * s .lines < 4294967296
+      lines-in =
+          let r = admitted-room s cmf omf p a 0 told z in
+          omega (arith, r .good .lines-to)
+
+      -- LINE
+      pub line-passes : (l : ℕ) → l < s .lines → 0 ≡ admitted s cmf omf p (lineRefusal s l)
+      unfolding lineRefusal unless
+      line-passes l h = on 0 (lineRefusal s l) (sym (ap (λ (b : Bool). unless b 9 0) (lt-ltb l (s .lines) h)))
+
+      pub line-past : (l : ℕ) → s .lines ≤ l → 9 ≡ admitted s cmf omf p (lineRefusal s l)
+      unfolding lineRefusal unless
+      line-past l h = on 9 (lineRefusal s l) (sym (ap (λ (b : Bool). unless b 9 0) (le-ltb l (s .lines) h)))
+
+      -- MARK
+      pub mark-passes : (live r : ℕ) → r ≡ live → r < s .frames → 0 ≡ admitted s cmf omf p (unless (ltb live (s .frames)) 12 0)
+      unfolding unless
+      mark-passes live r e h = on 0 (unless (ltb live (s .frames)) 12 0) (sym (ap (λ (b : Bool). unless b 12 0) (lt-ltb live (s .frames) (omega arith))))
+
+      pub mark-past : (live r : ℕ) → r ≡ live → s .frames ≤ r → 12 ≡ admitted s cmf omf p (unless (ltb live (s .frames)) 12 0)
+      unfolding unless
+      mark-past live r e h = on 12 (unless (ltb live (s .frames)) 12 0) (sym (ap (λ (b : Bool). unless b 12 0) (le-ltb live (s .frames) (omega arith))))
+
+      -- ROLLBACK and ADVANCE
+      pub frames-none : (live k : ℕ) → k ≡ 0 → 11 ≡ admitted s cmf omf p (markedRefusal live k)
+      unfolding markedRefusal unless
+      frames-none live k h =
+          on 11 (markedRefusal live k) (sym (ap (λ (b : Bool). unless (b && leb k (live - 1)) 11 0) (le-ltb 0 k (omega arith))))
+
+      pub frames-passes : (live k r : ℕ) → r ≡ live → k ≢ 0 → k < r → 0 ≡ admitted s cmf omf p (markedRefusal live k)
+      unfolding markedRefusal unless
+      frames-passes live k r e d h =
+          on 0 (markedRefusal live k)
+          (sym (ap (λ (b : Bool). unless (b && leb k (live - 1)) 11 0) (lt-ltb 0 k (omega arith)) ∙ ap (λ (b : Bool). unless b 11 0) (le-leb k (live - 1) (omega arith))))
+
+      pub frames-past : (live k r : ℕ) → r ≡ live → r ≤ k → k ≢ 0 → 11 ≡ admitted s cmf omf p (markedRefusal live k)
+      unfolding markedRefusal unless
+      frames-past live k r e h d =
+          on 11 (markedRefusal live k)
+          (sym (ap (λ (b : Bool). unless (ltb 0 k && b) 11 0) (lt-leb k (live - 1) (omega arith)) ∙ ap (λ (b : Bool). unless b 11 0) (and-false (ltb 0 k))))
+
+      -- READ
+      module _ (w addr : ℕ) (b : Bool) (width : b ≡ isWidth w) where
+        pub place-width : not b ≡ true → 7 ≡ admitted s cmf omf p (placeRefusal s w addr 0)
+        unfolding placeRefusal
+        place-width h = on 7 (placeRefusal s w addr 0) (sym (fails (isWidth w) 7 _ (sym width ∙ not-true b h)))
+
+        module _ (known : not b ≡ false) where
+          of-width : isWidth w ≡ true
+          of-width = sym width ∙ not-false b known
+
+          pub width-some : 0 < w
+          width-some = width-few w of-width .0
+
+          pub place-aligned : addr % w ≢ 0 → 8 ≡ admitted s cmf omf p (placeRefusal s w addr 0)
+          unfolding placeRefusal
+          place-aligned h = on 8 (placeRefusal s w addr 0) (sym (passes (isWidth w) 7 _ 8 of-width (fails (eqb (addr % w) 0) 8 _ (ne-eqb (addr % w) 0 h))))
+
+          pub width-in : w ≤ 16 * s .lines
+          width-in =
+              let r = admitted-room s cmf omf p a 0 told z in
+              omega (arith, r .good .lines-from, width-few w of-width .1)
+
+          module _ (aligned : addr % w ≡ 0) where
+            pub place-past : 16 * s .lines - w < addr → 9 ≡ admitted s cmf omf p (placeRefusal s w addr 0)
+            unfolding placeRefusal
+            place-past h =
+                on 9 (placeRefusal s w addr 0)
+                (sym (passes (isWidth w) 7 _ 9 of-width (passes (eqb (addr % w) 0) 8 _ 9 (eq-eqb (addr % w) 0 aligned) (fails (leb (addr + w) (16 * s .lines)) 9 0 (lt-leb (addr + w) (16 * s .lines) (omega arith))))))
+
+            pub place-passes : addr ≤ 16 * s .lines - w → 0 ≡ admitted s cmf omf p (placeRefusal s w addr 0)
+            unfolding placeRefusal
+            place-passes h =
+                on 0 (placeRefusal s w addr 0)
+                (sym (passes (isWidth w) 7 _ 0 of-width (passes (eqb (addr % w) 0) 8 _ 0 (eq-eqb (addr % w) 0 aligned) (passes (leb (addr + w) (16 * s .lines)) 9 0 0 (le-leb (addr + w) (16 * s .lines) (omega (arith, width-in))) refl))))
+
+  -- WRITE
+  module _ (w addr v a : ℕ) (told : a ≡ admitted s cmf omf p (placeRefusal s w addr 0)) where
+    both-links : Links (λ rest. admitted s cmf omf p (placeRefusal s w addr rest))
+    both-links = join (admitted s cmf omf p) (placeRefusal s w addr) admitted-links (place-links w addr)
+
+    pub write-turned : a ≢ 0 → a ≡ admitted s cmf omf p (writeRefusal s w addr v 0)
+    unfolding writeRefusal
+    write-turned z = turned (λ rest. admitted s cmf omf p (placeRefusal s w addr rest)) both-links a (unless (ltb v (256 ^ w)) 10 0) told z
+
+    pub write-width : a ≡ 0 → isWidth w ≡ true
+    write-width z = place-passed s w addr 0 (admitted-rest a _ told z) .0 .width
+
+    module _ (z : a ≡ 0) (b : Bool) (fits : b ≡ ltb v (256 ^ w)) where
+      pub write-passes : b ≡ true → 0 ≡ admitted s cmf omf p (writeRefusal s w addr v 0)
+      unfolding writeRefusal unless
+      write-passes h =
+          passes-on (λ rest. admitted s cmf omf p (placeRefusal s w addr rest)) both-links a told z 0 (unless (ltb v (256 ^ w)) 10 0)
+          (sym (ap (λ (t : Bool). unless t 10 0) (sym fits ∙ h)))
+
+      pub write-wide : b ≡ false → 10 ≡ admitted s cmf omf p (writeRefusal s w addr v 0)
+      unfolding writeRefusal unless
+      write-wide h =
+          passes-on (λ rest. admitted s cmf omf p (placeRefusal s w addr rest)) both-links a told z 10 (unless (ltb v (256 ^ w)) 10 0)
+          (sym (ap (λ (t : Bool). unless t 10 0) (sym fits ∙ h)))
+
+-- What ROLLBACK and ADVANCE have once they are admitted.
+pub record FramesRoom (s : Settings) (cmf omf : ℕ) (p : Pieces) (k : ℕ) : Type 0 where
+  pub room : Room s cmf omf p
+  pub k-some : 0 < k
+  pub k-low : k ≤ liveFrames (s .frames) cmf omf - 1
+  pub live-some : 0 < liveFrames (s .frames) cmf omf
+  pub live-most : liveFrames (s .frames) cmf omf ≤ s .frames
+
+pub frames-room : (s : Settings) (cmf omf : ℕ) (p : Pieces) (a k : ℕ) → a ≡ admitted s cmf omf p (markedRefusal (liveFrames (s .frames) cmf omf) k) → a ≡ 0
+    → FramesRoom s cmf omf p k
+frames-room s cmf omf p a k told z =
+    let r = admitted-room s cmf omf p a _ told z in
+    let m = marked-passed (liveFrames (s .frames) cmf omf) k (admitted-rest s cmf omf p a _ told z) in
+    record {
+      room = r;
+      k-some = m .0;
+      k-low = m .1;
+      live-some = live-some (s .frames) cmf omf (r .fits .cmf-below) (r .fits .omf-below);
+      live-most = live-at-most (s .frames) cmf omf (r .fits .cmf-below) (r .fits .omf-below);
+    }

@@ -1,0 +1,84 @@
+-- COUNTS keeps its promise. Assumes nothing.
+use mathlib.Core.Path.{_≡_, refl, sym, _∙_, ap₂}
+use mathlib.Core.Logic.{_≢_}
+use mathlib.Core.Bool.{Bool, true, false, cond, _&&_}
+use mathlib.Core.Option.{none, some}
+use mathlib.Core.List.{List}
+use Prim.Native.Nat.{ℕ, zero, suc, _+_, _-_, _*_, _/_, _≤_, _<_}
+use native.Mathlib.Omega.{arith}
+use borrow.Author.Tests.{lt-ltb}
+use lib.ListN.{length, getD}
+use Rattle.rules.specs.Settings.{Settings, elements}
+use Rattle.rules.specs.Line.{Line}
+use Rattle.rules.specs.Call.{refused}
+use Rattle.rules.specs.Call.Answer.{counting}
+use Rattle.rules.specs.Call.Call.{COUNTS}
+use Rattle.rules.specs.Seen.{accepted, count, needs}
+use Rattle.rules.specs.Refusal.{refusal, stateRefusal, noPage}
+use Rattle.rules.specs.Figure2.{pagesOf, isWritten, figureSeen, figureStep, cmfStep, omfStep}
+use Rattle.rules.specs.Figure3.{cacheStep}
+use Rattle.rules.specs.Promise.{Promise, Followed, factsOf, figureOf, seenOf}
+use Rattle.rules.proofs.Promise.{fits-facts}
+use Rattle.rules.proofs.Count.{any-same, count-same}
+use Rattle.rules.proofs.Circle.{live-at-most}
+use Rattle.written.specs.Bits.{writtenOf, Lent, effective}
+use Rattle.pages.specs.Table.{AsksTable, placesOf, neededAt, heldAt}
+use Rattle.pages.proofs.Holding.{held-count}
+use Rattle.pages.proofs.Counting.{needed-pages}
+use Rattle.storage.specs.Storage.{Storage, settingsIn, liveIn, writtenIn, frameIn, versionAt, WellStore, store}
+use Rattle.storage.specs.Admit.{admitted}
+use Rattle.storage.proofs.Looking.{admittedIn, turned-down, let-through}
+
+-- Pages are counted by the lines below L alone.
+pages-alike : (lines n : ℕ) (v w : ℕ → ℕ → Bool) → ((j l : ℕ) → j < n → l < lines → v j l ≡ w j l) → pagesOf (lines / 8) n v ≡ pagesOf (lines / 8) n w
+unfolding pagesOf needs
+pages-alike lines zero v w h = refl
+pages-alike lines (suc n) v w h =
+    ap₂ (λ (x y : ℕ). x + y)
+    (count-same (lines / 8) _ _ (λ b c. any-same 8 _ _ (λ i d. h 0 (b * 8 + i) (omega arith) (omega arith))))
+    (pages-alike lines n (λ j. v (suc j)) (λ j. w (suc j)) (λ j l b c. h (suc j) l (omega arith) c))
+
+written-effective : (x : Storage) (j l : ℕ) → j < liveIn (x .state) → l < x .state .lines
+    → effective (writtenIn x) (liveIn (x .state) - 1 - j) l ≡ isWritten (frameIn x j l)
+unfolding frameIn isWritten
+written-effective x j l b c =
+    sym (ap₂ (λ (s t : Bool). isWritten (cond (s && (t && effective (writtenIn x) (liveIn (x .state) - 1 - j) l)) (some (versionAt x (liveIn (x .state) - 1 - j) l)) none))
+    (lt-ltb j (liveIn (x .state)) b) (lt-ltb l (x .state .lines) c)
+    ∙ set (effective (writtenIn x) (liveIn (x .state) - 1 - j) l) (versionAt x (liveIn (x .state) - 1 - j) l))
+  where
+    set : (e : Bool) (v : Line) → isWritten (cond e (some v) none) ≡ e
+    set true v = refl
+    set false v = refl
+
+pub pages-counted : (x : Storage) → WellStore x
+    → count (x .state .pages) (heldAt (writtenIn x) (x .memory .table) (x .memory .owners)) ≡ seenOf store x .pages
+unfolding heldAt seenOf figureSeen figureOf
+pages-counted x q =
+    let f = fits-facts (settingsIn (x .state)) (x .state .cmf) (x .state .omf) (q .fits) in
+    let most = live-at-most (x .state .frames) (x .state .cmf) (x .state .omf) (f .cmf-below) (f .omf-below) in
+    held-count (neededAt (writtenIn x)) (x .state .pages) (λ y. getD (x .memory .table) y 0) (λ p. getD (x .memory .owners) p 0) (placesOf (writtenIn x)) (q .pages)
+    ∙ (needed-pages (writtenIn x) (x .state .tag) (liveIn (x .state)) (q .bits) most
+    ∙ pages-alike (x .state .lines) (liveIn (x .state)) _ _ (written-effective x))
+
+module _ (x : Storage) (a : ℕ) (told : a ≡ admittedIn x 0) where
+  pub counts-refused : a ≢ 0 → Promise store COUNTS x (counting a 0 0) x
+  unfolding refusal stateRefusal factsOf admitted refused noPage
+  counts-refused z = turned-down x COUNTS a told z
+
+  pub counts-told : a ≡ 0 → (live pages : ℕ) → live ≡ liveIn (x .state) → pages ≡ count (x .state .pages) (heldAt (writtenIn x) (x .memory .table) (x .memory .owners))
+      → Promise store COUNTS x (counting 0 live pages) x
+  unfolding refusal stateRefusal factsOf admitted noPage accepted figureStep cmfStep omfStep cacheStep seenOf figureSeen figureOf
+  counts-told z live pages el ep =
+      let-through x COUNTS a told z (_, _, refl) (record { kept = refl; followed = followed }) refl refl
+    where
+      followed : WellStore x → Followed store COUNTS x (counting 0 live pages) x
+      followed q =
+          record {
+            answer = ap₂ (λ (m n : ℕ). counting 0 m n) el (ep ∙ pages-counted x q);
+            well = q;
+            settings = refl;
+            cmf = refl;
+            omf = refl;
+            figure = refl;
+            cache = refl;
+          }

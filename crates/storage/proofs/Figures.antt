@@ -1,0 +1,105 @@
+-- Well-formed storage shows a figure that some surviving history draws, so that the store's well-formedness is lawful. Assumes nothing.
+use mathlib.Core.Path.{_≡_, refl, sym, _∙_, ap, ap₂, subst}
+use mathlib.Core.Bool.{Bool, true, false, cond, _&&_, and-false}
+use mathlib.Core.Option.{Option, none, some}
+use Prim.Native.Nat.{ℕ, _≤_, _<_}
+use native.Mathlib.Decide.{decLt}
+use native.Mathlib.Omega.{arith}
+use borrow.Author.Tests.{lt-ltb, le-ltb}
+use lib.Dec.{ltb}
+use Rattle.rules.specs.Settings.{Settings}
+use Rattle.rules.specs.Line.{Line, IsLine, zeros}
+use Rattle.rules.specs.Figure2.{Figure, figureSeen}
+use Rattle.rules.specs.Promise.{WellFigure, Lawful, figureOf, seenOf}
+use Rattle.rules.proofs.Promise.{fits-facts}
+use Rattle.rules.proofs.Circle.{live-some, live-at-most}
+use Rattle.written.specs.Bits.{effective}
+use Rattle.pages.specs.Lines.{archiveLine}
+use Rattle.pages.specs.Table.{heldAt}
+use Rattle.pages.proofs.Giving.{count-le}
+use Rattle.storage.specs.Storage.{Storage, settingsIn, liveIn, writtenIn, indexBack, versionAt, frameIn, archiveIn, WellStore, store}
+use Rattle.storage.proofs.Counting.{pages-counted}
+
+-- No version lies outside the live frames and the L lines.
+module _ (x : Storage) (j l : ℕ) where
+  abbrev bit : Bool
+  bit = effective (writtenIn x) (indexBack (x .state) j) l
+
+  abbrev version : Option Line
+  version = some (versionAt x (indexBack (x .state) j) l)
+
+  pub frame-live : liveIn (x .state) ≤ j → frameIn x j l ≡ none
+  unfolding frameIn
+  frame-live h =
+      ap (λ (t : Bool). cond (t && (ltb l (x .state .lines) && bit)) version none) (le-ltb j (liveIn (x .state)) h)
+
+  pub frame-past : x .state .lines ≤ l → frameIn x j l ≡ none
+  unfolding frameIn
+  frame-past h =
+      ap (λ (t : Bool). cond (ltb j (liveIn (x .state)) && (t && bit)) version none) (le-ltb l (x .state .lines) h)
+      ∙ ap (λ (t : Bool). cond t version none) (and-false (ltb j (liveIn (x .state))))
+
+  pub frame-at : j < liveIn (x .state) → l < x .state .lines → frameIn x j l ≡ cond bit version none
+  unfolding frameIn
+  frame-at h b =
+      ap₂ (λ (s t : Bool). cond (s && (t && bit)) version none) (lt-ltb j (liveIn (x .state)) h) (lt-ltb l (x .state .lines) b)
+
+-- A line in a frame of two storages has its version in both alike, if it is written in both or in neither.
+pub record AlikeAt (t x : Storage) (i j l : ℕ) : Type 0 where
+  pub bit : effective (writtenIn t) i l ≡ effective (writtenIn x) j l
+  pub version : effective (writtenIn x) j l ≡ true → versionAt t i l ≡ versionAt x j l
+
+pub frames-alike : (t x : Storage) (i j l : ℕ) → t .state .lines ≡ x .state .lines → (i < liveIn (t .state) → j < liveIn (x .state))
+    → (j < liveIn (x .state) → i < liveIn (t .state))
+    → (i < liveIn (t .state) → j < liveIn (x .state) → l < x .state .lines → AlikeAt t x (indexBack (t .state) i) (indexBack (x .state) j) l)
+    → frameIn t i l ≡ frameIn x j l
+frames-alike t x i j l e there back alike = go (decLt i (liveIn (t .state))) (decLt l (x .state .lines))
+  where
+    same : (a b : Bool) (v w : Line) → a ≡ b → (b ≡ true → v ≡ w) → cond a (some v) none ≡ cond b (some w) none
+    same a true v w e h = ap (λ (c : Bool). cond c (some v) none) e ∙ ap some (h refl)
+    same a false v w e h = ap (λ (c : Bool). cond c (some v) none) e
+
+    go : Dec (i < liveIn (t .state)) → Dec (l < x .state .lines) → frameIn t i l ≡ frameIn x j l
+    go (yes h) (yes b) =
+        let a = alike h (there h) b in
+        frame-at t i l h (subst (λ (n : ℕ). l < n) (sym e) b)
+        ∙ (same _ _ (versionAt t (indexBack (t .state) i) l) (versionAt x (indexBack (x .state) j) l) (a .bit) (a .version) ∙ sym (frame-at x j l (there h) b))
+    go (yes h) (no b) = frame-past t i l (subst (λ (n : ℕ). n ≤ l) (sym e) (omega arith)) ∙ sym (frame-past x j l (omega arith))
+    go (no h) b = frame-live t i l (omega arith) ∙ sym (frame-live x j l (outside (decLt j (liveIn (x .state)))))
+      where
+        outside : Dec (j < liveIn (x .state)) → liveIn (x .state) ≤ j
+        outside (yes d) = absurd (h (back d))
+        outside (no d) = omega arith
+
+archive-past : (x : Storage) (l : ℕ) → x .state .lines ≤ l → archiveIn x l ≡ zeros
+unfolding archiveIn
+archive-past x l h = ap (λ (t : Bool). cond t (archiveLine (x .memory .archive) l) zeros) (le-ltb l (x .state .lines) h)
+
+pub well-figure : (x : Storage) → WellStore x → WellFigure (settingsIn (x .state)) (figureOf store x)
+unfolding figureOf seenOf
+well-figure x q =
+    let f = fits-facts (settingsIn (x .state)) (x .state .cmf) (x .state .omf) (q .fits) in
+    record {
+      some-live = live-some (x .state .frames) (x .state .cmf) (x .state .omf) (f .cmf-below) (f .omf-below);
+      in-circle = live-at-most (x .state .frames) (x .state .cmf) (x .state .omf) (f .cmf-below) (f .omf-below);
+      only-live = λ j l h. frame-live x j l h;
+      only-lines = λ j l h. frame-past x j l h;
+      line = q .version-line;
+      archive-line = q .archive-line;
+      archive-lines = archive-past x;
+      pages = subst (λ (n : ℕ). n ≤ x .state .pages) (pages-counted x q) (count-le (x .state .pages) (heldAt (writtenIn x) (x .memory .table) (x .memory .owners)));
+    }
+
+-- The store's well-formedness is what document 01 asks of it.
+pub lawful : Lawful store
+lawful = record { fits = λ x q. q .fits; figure = well-figure; cache = λ x q. q .entries }
+
+-- Storage whose figure is well-formed has lines for versions.
+module _ (t : Storage) (s : Settings) (f : Figure) (shows : figureOf store t ≡ f) (q : WellFigure s f) where
+  pub step-versions : (j l : ℕ) (v : Line) → frameIn t j l ≡ some v → IsLine v
+  unfolding figureOf
+  step-versions j l v e = q .line j l v (sym (ap (λ (g : Figure). g .frame j l) shows) ∙ e)
+
+  pub step-archive : (l : ℕ) → IsLine (archiveIn t l)
+  unfolding figureOf
+  step-archive l = subst IsLine (sym (ap (λ (g : Figure). g .archive l) shows)) (q .archive-line l)

@@ -1,0 +1,10 @@
+pub mod Admitting
+pub mod Chains
+pub mod Looking
+pub mod Counting
+pub mod Figures
+pub mod Rows
+pub mod Past
+pub mod Numbers
+pub mod Rolling
+pub mod Marking

@@ -1,0 +1,160 @@
+-- MARK keeps its promise. Assumes nothing.
+use mathlib.Core.Path.{_≡_, refl, sym, _∙_, ap, ap₂, subst, fun-ext}
+use mathlib.Core.Logic.{_≢_}
+use mathlib.Core.Bool.{Bool, false, cond, _&&_, and-false}
+use mathlib.Core.Option.{Option, none, some}
+use Prim.Native.Nat.{ℕ, zero, suc, _+_, _-_, _%_, _≤_, _<_}
+use native.Mathlib.Nat.{mod-lt}
+use native.Mathlib.Numerals.{add-one}
+use native.Mathlib.Decide.{decLt}
+use native.Mathlib.Omega.{arith}
+use borrow.Author.Tests.{ltb-true, lt-ltb, le-ltb}
+use lib.Dec.{ltb}
+use Rattle.rules.specs.Line.{Line}
+use Rattle.rules.specs.Call.{Origin, refused}
+use Rattle.rules.specs.Call.Origin.{from-cache, from-frame, from-archive}
+use Rattle.rules.specs.Call.Answer.{outcome}
+use Rattle.rules.specs.Call.Call.{MARK}
+use Rattle.rules.specs.Seen.{accepted, further}
+use Rattle.rules.specs.Refusal.{unless, refusal, stateRefusal, noPage}
+use Rattle.rules.specs.Figure2.{marked, figureStep, cmfStep, omfStep, versionIn, foundIn, isWritten}
+use Rattle.rules.specs.Figure3.{cacheStep}
+use Rattle.rules.specs.Promise.{Promise, Followed, WellFigure, figureOf, factsOf, target}
+use Rattle.rules.proofs.Chain.{passed}
+use Rattle.rules.proofs.Promise.{Fits, fits-facts, facts-fit}
+use Rattle.rules.proofs.WellSteps.{mark-well}
+use Rattle.rules.proofs.Circle.{live-mark, live-at-most}
+use Rattle.frames.specs.Circle.{frameAt}
+use Rattle.written.specs.Bits.{effective}
+use Rattle.written.specs.Well.{WellBits}
+use Rattle.written.proofs.Keeping.{mark-keeps}
+use Rattle.cache.specs.Entries.{lineOf}
+use Rattle.storage.specs.declared.State.{State}
+use Rattle.storage.specs.Storage.{Storage, settingsIn, lengthsIn, liveIn, writtenIn, frameIn, archiveIn, versionAt, latestIn, frameNumber, newestFrame, WellStore, store}
+use Rattle.storage.specs.Steps.{stateWith, markedState}
+use Rattle.storage.specs.Admit.{admitted}
+use Rattle.storage.proofs.Chains.{admitted-rest}
+use Rattle.storage.proofs.Figures.{well-figure, step-versions, step-archive}
+use Rattle.storage.proofs.Looking.{admittedIn, turned-down, let-through}
+
+module _ (x : Storage) (q : WellStore x) (room : liveIn (x .state) < x .state .frames) where
+  abbrev n : ℕ
+  n = liveIn (x .state)
+
+  abbrev pub opened : Storage
+  opened = record { state = markedState (x .state); memory = x .memory }
+
+  fits : Fits (settingsIn (x .state)) (x .state .cmf) (x .state .omf)
+  fits = fits-facts (settingsIn (x .state)) (x .state .cmf) (x .state .omf) (q .fits)
+
+  live : liveIn (opened .state) ≡ n + 1
+  unfolding markedState
+  live = live-mark (x .state .frames) (x .state .cmf) (x .state .omf) (fits .cmf-below) (fits .omf-below) room
+
+  -- the frame that opens has no written bit, and the others lie one mark further back
+  abbrev shape : (live back line : ℕ) → Option Line
+  shape m j l =
+      cond (ltb j m && (ltb l (x .state .lines) && effective (writtenIn x) (m - 1 - j) l)) (some (versionAt x (m - 1 - j) l)) none
+
+  shape-first : (l : ℕ) → shape (n + 1) 0 l ≡ none
+  shape-first l = ap (λ (t : Bool). cond (ltb 0 (n + 1) && t) (some (versionAt x (n + 1 - 1 - 0) l)) none) (go (decLt l (x .state .lines))) ∙ ap (λ (t : Bool). cond t (some (versionAt x (n + 1 - 1 - 0) l)) none) (and-false (ltb 0 (n + 1)))
+    where
+      go : Dec (l < x .state .lines) → (ltb l (x .state .lines) && effective (writtenIn x) (n + 1 - 1 - 0) l) ≡ false
+      go (yes h) =
+          ap₂ (λ (t : Bool) (i : ℕ). t && effective (writtenIn x) i l) (lt-ltb l (x .state .lines) h) (index n)
+          ∙ q .bits .only-live n l (omega arith) room h
+        where
+          index : (n : ℕ) → n + 1 - 1 - 0 ≡ n
+          index n = omega arith
+      go (no h) = ap (λ (t : Bool). t && effective (writtenIn x) (n + 1 - 1 - 0) l) (le-ltb l (x .state .lines) (omega arith))
+
+  shape-next : (j l : ℕ) → shape (n + 1) (suc j) l ≡ shape n j l
+  shape-next j l =
+      ap₂ (λ (t : Bool) (i : ℕ). cond (t && (ltb l (x .state .lines) && effective (writtenIn x) i l)) (some (versionAt x i l)) none) (test (decLt j n))
+      (index n j)
+    where
+      index : (n j : ℕ) → n + 1 - 1 - suc j ≡ n - 1 - j
+      index n j = omega arith
+
+      test : Dec (j < n) → ltb (suc j) (n + 1) ≡ ltb j n
+      test (yes h) = lt-ltb (suc j) (n + 1) (omega arith) ∙ sym (lt-ltb j n h)
+      test (no h) = le-ltb (suc j) (n + 1) (omega arith) ∙ sym (le-ltb j n (omega arith))
+
+  opened-frame : (j l : ℕ) → frameIn opened j l ≡ marked (figureOf store x) j l
+  unfolding frameIn marked markedState figureOf versionAt
+  opened-frame zero l = ap (λ (m : ℕ). shape m 0 l) live ∙ shape-first l
+  opened-frame (suc j) l = ap (λ (m : ℕ). shape m (suc j) l) live ∙ shape-next j l
+
+  opened-figure : figureOf store opened ≡ figureStep MARK (figureOf store x)
+  unfolding figureOf figureStep markedState archiveIn
+  opened-figure =
+      ap₂ (λ (m : ℕ) (f : ℕ → ℕ → Option Line). record { live = m; frame = f; archive = archiveIn x }) live (fun-ext (λ j. fun-ext (λ l. opened-frame j l)))
+
+  one-more : liveIn (opened .state) ≡ suc n
+  one-more = live ∙ add-one n
+
+  opened-latest : (l : ℕ) → latestIn opened l ≡ latestIn x l
+  unfolding latestIn versionIn marked figureOf markedState archiveIn
+  opened-latest l =
+      ap₂ (λ (m : ℕ) (row : ℕ → Option Line). versionIn m row (archiveIn x l)) one-more (fun-ext (λ j. opened-frame j l))
+
+  number-further : (o : Origin) → frameNumber (opened .state) (further o) ≡ frameNumber (x .state) o
+  unfolding frameNumber further markedState
+  number-further from-cache = refl
+  number-further (from-frame j) = ap (frameAt (x .state .frames) (x .state .omf)) (omega (arith, live))
+  number-further from-archive = refl
+
+  opened-newest : (l : ℕ) → newestFrame opened l ≡ newestFrame x l
+  unfolding newestFrame foundIn marked isWritten figureOf
+  opened-newest l =
+      ap₂ (λ (m : ℕ) (row : ℕ → Option Line). frameNumber (opened .state) (foundIn m (λ j. isWritten (row j)))) one-more (fun-ext (λ j. opened-frame j l))
+      ∙ number-further (foundIn n (λ j. isWritten (frameIn x j l)))
+
+  next-well : WellFigure (settingsIn (x .state)) (figureStep MARK (figureOf store x))
+  unfolding figureOf
+  next-well = mark-well (settingsIn (x .state)) (figureOf store x) (well-figure x q) room
+
+  opened-well : WellStore opened
+  unfolding markedState
+  opened-well =
+      record {
+        fits = facts-fit (settingsIn (x .state)) _ (x .state .omf) (record { limits = fits .limits; cmf-below = mod-lt _ (omega (arith, fits .omf-below)); omf-below = fits .omf-below });
+        long = q .long;
+        bits = subst (λ (m : ℕ). WellBits (writtenIn x) (x .state .tag) m) (sym live) (mark-keeps (writtenIn x) (x .state .tag) n (q .bits));
+        pages = q .pages;
+        sized = q .sized;
+        version-line = step-versions opened _ _ opened-figure next-well;
+        archive-line = step-archive opened _ _ opened-figure next-well;
+        entries = q .entries;
+        coherent = λ e v. (q .coherent e v .0 ∙ sym (opened-latest (lineOf (x .state .cache) e)), q .coherent e v .1 ∙ sym (opened-newest (lineOf (x .state .cache) e)));
+      }
+
+  pub opened-followed : Followed store MARK x (outcome 0) opened
+  unfolding accepted cmfStep omfStep cacheStep markedState
+  opened-followed =
+      record {
+        answer = refl;
+        well = opened-well;
+        settings = refl;
+        cmf = refl;
+        omf = refl;
+        figure = opened-figure;
+        cache = refl;
+      }
+
+-- The promise: refused, and accepted.
+module _ (x : Storage) (r : ℕ) (told : r ≡ admittedIn x (unless (ltb (liveIn (x .state)) (x .state .frames)) 12 0)) where
+  pub mark-refused : r ≢ 0 → Promise store MARK x (outcome r) x
+  unfolding refusal stateRefusal factsOf admitted refused noPage
+  mark-refused z = turned-down x MARK r told z
+
+  pub mark-opens : r ≡ 0 → (s : State) → s ≡ stateWith (x .state) ((x .state .cmf + 1) % x .state .frames) (x .state .omf) (x .state .tag) (x .state .hint) (x .state .cache)
+      → Promise store MARK x (outcome 0) (record { state = s; memory = x .memory }) × (s ≡ markedState (x .state))
+  unfolding refusal stateRefusal factsOf admitted noPage target markedState
+  mark-opens z s e =
+      let rest = admitted-rest (settingsIn (x .state)) (x .state .cmf) (x .state .omf) (lengthsIn (x .memory)) r _ told z in
+      let below = ltb-true (liveIn (x .state)) (x .state .frames) (passed (ltb (liveIn (x .state)) (x .state .frames)) 12 0 (omega arith) rest .0) in (
+        subst (λ (t : State). Promise store MARK x (outcome 0) (record { state = t; memory = x .memory })) (sym e)
+            (let-through x MARK r told z refl (λ q. opened-followed x q below) refl refl),
+        e,
+      )

@@ -1,0 +1,26 @@
+-- The frame numbers that the cache's entries have, on the circle and off it. Assumes nothing.
+use mathlib.Core.Path.{_≡_, refl, sym, _∙_, ap, ap₂}
+use mathlib.Core.Bool.{Bool, true, false, not, _&&_}
+use Prim.Native.Nat.{ℕ, _≤_, _<_}
+use native.Mathlib.Omega.{arith}
+use borrow.Author.Tests.{lt-ltb, le-ltb, ne-eqb}
+use lib.Dec.{ltb, eqb}
+use Rattle.frames.specs.Circle.{frameAt, indexOf}
+use Rattle.frames.proofs.Circle.{index-frame, frame-below}
+use Rattle.cache.specs.Steps.{archive, isBelow, isDropped}
+
+module _ (frames omf : ℕ) (few : frames ≤ 256) (h : omf < frames) (m : ℕ) where
+  -- a frame is told by its index, and the archive's number lies off the circle
+  pub below-frame : (i : ℕ) → i < frames → isBelow omf frames m (frameAt frames omf i) ≡ ltb i m
+  unfolding isBelow
+  below-frame i b =
+      ap₂ (λ (t : Bool) (k : ℕ). t && ltb k m) (lt-ltb (frameAt frames omf i) frames (frame-below frames omf h i)) (index-frame frames omf h i b)
+
+  pub below-archive : isBelow omf frames m archive ≡ false
+  unfolding isBelow
+  below-archive = ap (λ (t : Bool). t && ltb (indexOf frames omf archive) m) (le-ltb archive frames (omega arith))
+
+  pub dropped-frame : (i : ℕ) → i < frames → isDropped omf frames m (frameAt frames omf i) ≡ not (ltb i m)
+  unfolding isDropped
+  dropped-frame i b =
+      ap₂ (λ (s t : Bool). not s && not t) (ne-eqb (frameAt frames omf i) archive (λ e. omega (arith, frame-below frames omf h i))) (below-frame i b)

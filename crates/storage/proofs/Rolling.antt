@@ -1,0 +1,257 @@
+-- ROLLBACK keeps its promise. Assumes nothing.
+use mathlib.Core.Path.{_≡_, refl, sym, _∙_, ap, ap₂, subst, fun-ext}
+use mathlib.Core.Logic.{_≢_}
+use mathlib.Core.Bool.{Bool, true, false, cond, not, _&&_, and-true}
+use mathlib.Core.Option.{Option, none, some}
+use mathlib.Core.List.{List}
+use Prim.Native.Nat.{ℕ, suc, _+_, _-_, _*_, _/_, _%_, _≤_, _<_}
+use native.Mathlib.Nat.{mod-lt}
+use native.Mathlib.Decide.{decLt}
+use native.Mathlib.Omega.{arith}
+use borrow.Author.Tests.{lt-ltb, le-ltb}
+use lib.Dec.{ltb, eqb}
+use lib.ListN.{length, getD, drop}
+use Rattle.rules.specs.Settings.{Pieces, elements, enough}
+use Rattle.rules.specs.Line.{Line}
+use Rattle.rules.specs.Call.{Origin, refused}
+use Rattle.rules.specs.Call.Origin.{from-cache, from-frame, from-archive}
+use Rattle.rules.specs.Call.Answer.{outcome}
+use Rattle.rules.specs.Call.Call.{ROLLBACK}
+use Rattle.rules.specs.Seen.{accepted, dropped}
+use Rattle.rules.specs.Refusal.{markedRefusal, stateRefusal, refusal, noPage}
+use Rattle.rules.specs.Figure2.{figureStep, cmfStep, omfStep, figureSeen, versionIn, foundIn, isWritten}
+use Rattle.rules.specs.Figure3.{WellCache, cacheStep}
+use Rattle.rules.specs.Promise.{Promise, Followed, factsOf, target, WellFigure, figureOf, seenOf}
+use Rattle.rules.proofs.Settings.{Good, within-good}
+use Rattle.rules.proofs.Promise.{Fits, fits-facts, facts-fit}
+use Rattle.rules.proofs.WellSteps.{rollback-well}
+use Rattle.rules.proofs.WellCache.{forget-well}
+use Rattle.rules.proofs.Circle.{live-rollback, live-at-most}
+use Rattle.frames.specs.Circle.{frameAt, indexOf}
+use Rattle.frames.proofs.Circle.{index-frame, frame-below}
+use Rattle.written.specs.Bits.{effective}
+use Rattle.written.specs.Steps.{RolledBack}
+use Rattle.written.specs.Well.{WellBits}
+use Rattle.written.proofs.Rolling.{rolled, rolled-effective, rolled-well}
+use Rattle.pages.specs.Table.{placeAt}
+use Rattle.pages.proofs.Keeping.{rolled-confirmed}
+use Rattle.cache.specs.Entries.{lineOf, frameOf, isValid}
+use Rattle.cache.specs.Steps.{archive, isBelow, isDropped, forgotten}
+use Rattle.cache.specs.Shown.{shown}
+use Rattle.cache.proofs.Frames.{forgotten-sized, forgotten-shown, forgotten-all}
+use Rattle.cache.specs.declared.Cache.{Cache}
+use Rattle.storage.specs.declared.State.{State}
+use Rattle.storage.specs.Storage.{Storage, storageOf, memoryOf, settingsIn, lengthsIn, Recent, Coherent, liveIn, writtenIn, indexBack, frameIn, archiveIn, versionAt, latestIn, frameNumber, newestFrame, WellStore, store}
+use Rattle.storage.specs.Steps.{stateWith, rolledState, RolledTo}
+use Rattle.storage.specs.Admit.{admitted}
+use Rattle.storage.proofs.Chains.{frames-room}
+use Rattle.storage.proofs.Looking.{admittedIn, turned-down, let-through}
+use Rattle.storage.proofs.Figures.{AlikeAt, frames-alike, well-figure, step-versions, step-archive}
+use Rattle.storage.proofs.Past.{rolled-groups-long, rolled-groups-past, rolled-history-long, rolled-history-past}
+use Rattle.storage.proofs.Numbers.{dropped-frame}
+use Rattle.storage.proofs.Rows.{shift, Within, found-within, kept-found, kept-version}
+
+module _ (x : Storage) (q : WellStore x) (k : ℕ) (low : k ≤ liveIn (x .state) - 1) (groups history : List ℕ) (next : ℕ)
+    (r : RolledBack (writtenIn x) (x .state .tag) (liveIn (x .state) - k) groups history next) where
+  abbrev n : ℕ
+  n = liveIn (x .state)
+
+  abbrev kept : ℕ
+  kept = n - k
+
+  abbrev pub dropped-to : Storage
+  dropped-to =
+      record {
+        state = rolledState (x .state) k next;
+        memory = record { archive = x .memory .archive; pool = x .memory .pool; groups = groups; table = x .memory .table; owners = x .memory .owners; history = history };
+      }
+
+  fits : Fits (settingsIn (x .state)) (x .state .cmf) (x .state .omf)
+  fits = fits-facts (settingsIn (x .state)) (x .state .cmf) (x .state .omf) (q .fits)
+
+  good : Good (settingsIn (x .state))
+  good = within-good (settingsIn (x .state)) (fits .limits)
+
+  most : n ≤ x .state .frames
+  most = live-at-most (x .state .frames) (x .state .cmf) (x .state .omf) (fits .cmf-below) (fits .omf-below)
+
+  live : liveIn (dropped-to .state) ≡ kept
+  unfolding rolledState
+  live = live-rollback (x .state .frames) (x .state .cmf) (x .state .omf) (fits .cmf-below) (fits .omf-below) k low
+
+  lengths : lengthsIn (dropped-to .memory) ≡ lengthsIn (x .memory)
+  lengths =
+      ap₂ (λ (g h : ℕ). record { archive = length (x .memory .archive); pool = length (x .memory .pool); groups = g; table = length (x .memory .table); owners = length (x .memory .owners); history = h })
+      (rolled-groups-long (writtenIn x) (x .state .tag) kept groups history next r (q .bits .tag-below))
+      (rolled-history-long (writtenIn x) (x .state .tag) kept groups history next r (q .bits .tag-below))
+
+  -- the frames that stay lie k marks nearer
+  nearer : (j : ℕ) → indexBack (dropped-to .state) j ≡ indexBack (x .state) (k + j)
+  nearer j = ap (λ (m : ℕ). m - 1 - j) live ∙ index n
+    where
+      index : (n : ℕ) → n - k - 1 - j ≡ n - 1 - (k + j)
+      index n = omega arith
+
+  rolled-alike : (i l : ℕ) → i < kept → l < x .state .lines → AlikeAt dropped-to x i i l
+  unfolding versionAt rolledState placeAt
+  rolled-alike i l h b =
+      record {
+        bit =
+            rolled-effective (writtenIn x) (x .state .tag) kept n (q .bits) groups history next r i l (omega (arith, most)) b
+            ∙ (ap (λ (t : Bool). effective (writtenIn x) i l && t) (lt-ltb i kept h) ∙ and-true (effective (writtenIn x) i l));
+        version = λ _. refl;
+      }
+
+  rolled-frame : (j l : ℕ) → frameIn dropped-to j l ≡ frameIn x (k + j) l
+  unfolding rolledState
+  rolled-frame j l =
+      frames-alike dropped-to x j (k + j) l refl (λ h. omega (arith, live)) (λ h. omega (arith, live))
+      (λ h d b. subst (λ (i : ℕ). AlikeAt dropped-to x i (indexBack (x .state) (k + j)) l) (sym (nearer j)) (rolled-alike (indexBack (x .state) (k + j)) l (omega arith) b))
+
+  rolled-figure : figureOf store dropped-to ≡ figureStep (ROLLBACK k) (figureOf store x)
+  unfolding figureOf figureStep rolledState archiveIn
+  rolled-figure =
+      ap₂ (λ (m : ℕ) (f : ℕ → ℕ → Option Line). record { live = m; frame = f; archive = archiveIn x }) live (fun-ext (λ j. fun-ext (λ l. rolled-frame j l)))
+
+  -- A line's most recent version lay in a dropped frame just if its entry's frame says so.
+  abbrev origin : ℕ → Origin
+  origin l = foundIn n (λ j. isWritten (frameIn x j l))
+
+  gone-number : (o : Origin) → Within n o → isDropped (x .state .omf) (x .state .frames) kept (frameNumber (x .state) o) ≡ dropped k o
+  unfolding dropped isDropped frameNumber
+  gone-number from-cache h = refl
+  gone-number (from-frame j) h =
+      dropped-frame (x .state .frames) (x .state .omf) (good .frames-to) (fits .omf-below) kept (n - 1 - j) (omega (arith, most))
+      ∙ turned (decLt j k)
+    where
+      turned : Dec (j < k) → not (ltb (n - 1 - j) kept) ≡ ltb j k
+      turned (yes b) = ap not (le-ltb (n - 1 - j) kept (omega arith)) ∙ sym (lt-ltb j k b)
+      turned (no b) = ap not (lt-ltb (n - 1 - j) kept (omega arith)) ∙ sym (le-ltb j k (omega arith))
+  gone-number from-archive h = refl
+
+  gone-frame : (l : ℕ) → isDropped (x .state .omf) (x .state .frames) kept (newestFrame x l) ≡ dropped k (origin l)
+  unfolding newestFrame
+  gone-frame l = gone-number (origin l) (found-within n (λ j. isWritten (frameIn x j l)))
+
+  rolled-cache : shown (dropped-to .state .cache) ≡ cacheStep (seenOf store x) (ROLLBACK k) (shown (x .state .cache))
+  unfolding rolledState cacheStep seenOf figureSeen figureOf
+  rolled-cache =
+      forgotten-shown (x .state .cache) (q .sized) (x .state .omf) (x .state .frames) kept (λ l. dropped k (origin l))
+      (λ e b v. sym (ap (isDropped (x .state .omf) (x .state .frames) kept) (q .coherent e v .1) ∙ gone-frame (lineOf (x .state .cache) e)))
+
+  -- The other lines are found as before.
+  number-nearer : (o : Origin) → Within kept o → frameNumber (dropped-to .state) o ≡ frameNumber (x .state) (shift k o)
+  unfolding frameNumber shift rolledState
+  number-nearer from-cache h = refl
+  number-nearer (from-frame j) h = ap (frameAt (x .state .frames) (x .state .omf)) (nearer j)
+  number-nearer from-archive h = refl
+
+  module _ (l : ℕ) (stays : dropped k (origin l) ≡ false) where
+    all : n ≡ k + kept
+    all = omega arith
+
+    rolled-latest : latestIn dropped-to l ≡ latestIn x l
+    unfolding latestIn rolledState archiveIn
+    rolled-latest =
+        ap₂ (λ (m : ℕ) (row : ℕ → Option Line). versionIn m row (archiveIn x l)) live (fun-ext (λ j. rolled-frame j l))
+        ∙ sym (kept-version k kept n (λ j. frameIn x j l) (λ j. frameIn x (k + j) l) (archiveIn x l) all (λ j. refl) stays)
+
+    rolled-newest : newestFrame dropped-to l ≡ newestFrame x l
+    unfolding newestFrame
+    rolled-newest =
+        ap₂ (λ (m : ℕ) (row : ℕ → Option Line). frameNumber (dropped-to .state) (foundIn m (λ j. isWritten (row j)))) live (fun-ext (λ j. rolled-frame j l))
+        ∙ (number-nearer (foundIn kept (λ j. isWritten (frameIn x (k + j) l))) (found-within kept (λ j. isWritten (frameIn x (k + j) l)))
+        ∙ ap (frameNumber (x .state)) (sym (kept-found k kept n (λ j. isWritten (frameIn x j l)) (λ j. isWritten (frameIn x (k + j) l)) all (λ j. refl) stays)))
+
+  rolled-entries : WellCache (settingsIn (x .state)) (shown (dropped-to .state .cache))
+  unfolding cacheStep seenOf figureSeen figureOf
+  rolled-entries =
+      subst (WellCache (settingsIn (x .state))) (sym rolled-cache)
+      (forget-well (settingsIn (x .state)) (λ l. dropped k (origin l)) (shown (x .state .cache)) (q .entries))
+
+  rolled-coherent : Coherent dropped-to
+  unfolding rolledState
+  rolled-coherent =
+      forgotten-all (x .state .cache) (q .sized) (x .state .omf) (x .state .frames) kept (Recent x) (Recent dropped-to) (q .coherent)
+      (λ l g b h c.
+      let stays = sym (gone-frame l) ∙ (sym (ap (isDropped (x .state .omf) (x .state .frames) kept) (c .1)) ∙ h) in
+      (c .0 ∙ sym (rolled-latest l stays), c .1 ∙ sym (rolled-newest l stays)))
+
+  next-well : WellFigure (settingsIn (x .state)) (figureStep (ROLLBACK k) (figureOf store x))
+  unfolding figureOf
+  next-well = rollback-well (settingsIn (x .state)) (figureOf store x) (well-figure x q) k low
+
+  rolled-store : WellStore dropped-to
+  unfolding rolledState
+  rolled-store =
+      record {
+        fits = facts-fit (settingsIn (x .state)) _ (x .state .omf) (record { limits = fits .limits; cmf-below = mod-lt _ (omega (arith, fits .omf-below)); omf-below = fits .omf-below });
+        long = subst (λ (p : Pieces). enough (settingsIn (x .state)) p ≡ true) (sym lengths) (q .long);
+        bits = subst (λ (m : ℕ). WellBits (writtenIn dropped-to) next m) (sym live) (rolled-well (writtenIn x) (x .state .tag) kept n (q .bits) groups history next r (omega (arith, most, good .frames-to)));
+        pages = rolled-confirmed (writtenIn x) (x .state .tag) kept n (q .bits) groups history next r (x .state .pages) (λ y. getD (x .memory .table) y 0) (λ p. getD (x .memory .owners) p 0) (q .pages);
+        sized = forgotten-sized (x .state .cache) (q .sized) (x .state .omf) (x .state .frames) kept;
+        version-line = step-versions dropped-to _ _ rolled-figure next-well;
+        archive-line = step-archive dropped-to _ _ rolled-figure next-well;
+        entries = rolled-entries;
+        coherent = rolled-coherent;
+      }
+
+  pub rolled-followed : Followed store (ROLLBACK k) x (outcome 0) dropped-to
+  unfolding accepted cmfStep omfStep rolledState
+  rolled-followed =
+      record {
+        answer = refl;
+        well = rolled-store;
+        settings = refl;
+        cmf = refl;
+        omf = refl;
+        figure = rolled-figure;
+        cache = rolled-cache;
+      }
+
+-- The promise: refused, and accepted. The tag given to the history is the state's, cut to its 8 bits.
+module _ (x : Storage) (k a : ℕ) (told : a ≡ admittedIn x (markedRefusal (liveIn (x .state)) k)) where
+  pub rollback-refused : a ≢ 0 → Promise store (ROLLBACK k) x (outcome a) x
+  unfolding refusal stateRefusal factsOf admitted refused noPage
+  rollback-refused z = turned-down x (ROLLBACK k) a told z
+
+  module _ (z : a ≡ 0) (kept : ℕ) (kept-is : kept ≡ liveIn (x .state) - k) (groups history : List ℕ) (next : ℕ)
+      (r : RolledBack (writtenIn x) (x .state .tag % 256) kept groups history next) where
+    small : x .state .tag % 256 < 256
+    small = omega arith
+
+    exact : RolledBack (writtenIn x) (x .state .tag % 256) (liveIn (x .state) - k) groups history next
+    exact = subst (λ (n : ℕ). RolledBack (writtenIn x) (x .state .tag % 256) n groups history next) kept-is r
+
+    abbrev pub after : State → Storage
+    after s = storageOf s (x .memory .archive) (x .memory .pool) groups (x .memory .table) (x .memory .owners) history
+
+    followed : WellStore x → Followed store (ROLLBACK k) x (outcome 0) (after (rolledState (x .state) k next))
+    followed q =
+        let tag : x .state .tag % 256 ≡ x .state .tag = omega (arith, q .bits .tag-below) in
+        rolled-followed x q k (frames-room (settingsIn (x .state)) (x .state .cmf) (x .state .omf) (lengthsIn (x .memory)) a k told z .k-low) groups history next
+        (subst (λ (t : ℕ). RolledBack (writtenIn x) t (liveIn (x .state) - k) groups history next) tag exact)
+
+    promised : Promise store (ROLLBACK k) x (outcome 0) (after (rolledState (x .state) k next))
+    unfolding refusal stateRefusal factsOf admitted noPage target elements
+    promised =
+        let-through x (ROLLBACK k) a told z refl followed
+        (ap₂ (λ (g h : ℕ). record { archive = length (x .memory .archive); pool = length (x .memory .pool); groups = g; table = length (x .memory .table); owners = length (x .memory .owners); history = h })
+        (rolled-groups-long (writtenIn x) (x .state .tag % 256) kept groups history next r small)
+        (rolled-history-long (writtenIn x) (x .state .tag % 256) kept groups history next r small))
+        (ap₂ (λ (g h : List ℕ). memoryOf (drop (16 * x .state .lines) (x .memory .archive)) (drop (128 * x .state .pages) (x .memory .pool)) g (drop (x .state .frames * (x .state .lines / 8)) (x .memory .table)) (drop (x .state .pages) (x .memory .owners)) h)
+        (rolled-groups-past (writtenIn x) (x .state .tag % 256) kept groups history next r small)
+        (rolled-history-past (writtenIn x) (x .state .tag % 256) kept groups history next r small))
+
+    -- in the form in which the code has the state
+    pub rollback-drops : (held : Cache) (s : State) → held ≡ forgotten (x .state .cache) (x .state .omf) (x .state .frames) kept
+        → s ≡ stateWith (x .state) ((x .state .cmf + x .state .frames - k) % x .state .frames) (x .state .omf) next (x .state .hint) held
+        → Promise store (ROLLBACK k) x (outcome 0) (after s) × RolledTo (x .state) (x .memory .groups) (x .memory .history) k s groups history
+    unfolding rolledState
+    rollback-drops held s cached e =
+        let same : s ≡ rolledState (x .state) k next =
+        e ∙ ap (λ (c : Cache). stateWith (x .state) ((x .state .cmf + x .state .frames - k) % x .state .frames) (x .state .omf) next (x .state .hint) c) (cached ∙ ap (forgotten (x .state .cache) (x .state .omf) (x .state .frames)) kept-is)
+        in (
+          subst (λ (t : State). Promise store (ROLLBACK k) x (outcome 0) (after t)) (sym same) promised,
+          subst (λ (t : State). RolledTo (x .state) (x .memory .groups) (x .memory .history) k t groups history) (sym same) (record { state = refl; memory = exact }),
+        )

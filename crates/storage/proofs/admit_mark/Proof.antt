@@ -1,0 +1,24 @@
+-- `storage::admit_mark` meets its contract. Assumes nothing.
+use borrow.Author.Needs.{needs}
+use Rattle.storage.proofs.Admitting.{admitted-room, room-turn}
+use Rattle.storage.proofs.Chains.{admitted-turned, mark-passes, mark-past}
+use Rattle.storage.proofs.admit_mark.Statement.{statement}
+use Rattle.storage.proofs.admit_mark.Tie as tie
+
+admit-requires : tie.Need-admit-requires
+admit-requires c κs = search needs
+
+returns : tie.Need-returns
+returns c = search admitted-turned
+
+live-requires : tie.Need-live-requires
+live-requires c κs = room-turn _ _ _ _ (admitted-room _ _ _ _ _ _ (c .before .admit .ensures) (c .if1 .left))
+
+returns-2 : tie.Need-returns-2
+returns-2 c = search mark-passes
+
+returns-3 : tie.Need-returns-3
+returns-3 c = search mark-past
+
+pub admit-mark-spec : {M : Type 1} → statement M
+admit-mark-spec = tie.close (tie.spec admit-requires returns live-requires returns-2 returns-3)

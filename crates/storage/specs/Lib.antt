@@ -1,0 +1,3 @@
+pub mod Storage
+pub mod Admit
+pub mod Steps

@@ -1,0 +1,153 @@
+-- The store's storage: the state and the lent memory, what they show of Figures 2 and 3, and when they are well-formed.
+use Prim.Native.Nat.{ℕ, _+_, _-_, _*_, _/_, _%_}
+use mathlib.Core.Path.{_≡_}
+use mathlib.Core.Bool.{true, cond, _&&_}
+use mathlib.Core.Option.{Option, none, some}
+use mathlib.Core.List.{List}
+use lib.Dec.{ltb}
+use lib.ListN.{length, getD, drop}
+use Rattle.rules.specs.Settings.{Settings, Pieces, enough}
+use Rattle.rules.specs.Line.{Line, IsLine, zeros}
+use Rattle.rules.specs.Call as call
+use Rattle.rules.specs.Call.Origin.{from-cache, from-frame, from-archive}
+use Rattle.rules.specs.Refusal.{liveFrames, stateFits}
+use Rattle.rules.specs.Figure2.{versionIn, foundIn, isWritten}
+use Rattle.rules.specs.Figure3.{WellCache}
+use Rattle.rules.specs.Promise.{Kind}
+use Rattle.frames.specs.Circle.{frameAt}
+use Rattle.written.specs.Bits.{Written, writtenOf, effective}
+use Rattle.written.specs.Well.{WellBits}
+use Rattle.pages.specs.Lines.{pageLine, archiveLine}
+use Rattle.pages.specs.Table.{Confirmed, neededAt, placeAt, placesOf}
+use Rattle.cache.specs.Entries.{Sized, All}
+use Rattle.cache.specs.Steps.{archive}
+use Rattle.cache.specs.Shown.{shown}
+use Rattle.storage.specs.declared.State.{State}
+
+-- The lent lists.
+pub record Memory : Type 0 where
+  pub archive : List ℕ
+  pub pool : List ℕ
+  pub groups : List ℕ
+  pub table : List ℕ
+  pub owners : List ℕ
+  pub history : List ℕ
+
+pub record Storage : Type 0 where
+  pub state : State
+  pub memory : Memory
+
+abbrev pub memoryOf : (archive pool groups table owners history : List ℕ) → Memory
+memoryOf a p g t o h = record { archive = a; pool = p; groups = g; table = t; owners = o; history = h }
+
+abbrev pub storageOf : State → (archive pool groups table owners history : List ℕ) → Storage
+storageOf s a p g t o h = record { state = s; memory = memoryOf a p g t o h }
+
+abbrev pub settingsIn : State → Settings
+settingsIn s = record { lines = s .lines; frames = s .frames; pages = s .pages }
+
+-- The live frames, by CMF, OMF and F.
+abbrev pub liveIn : State → ℕ
+liveIn s = liveFrames (s .frames) (s .cmf) (s .omf)
+
+abbrev pub writtenIn : Storage → Written
+writtenIn x = writtenOf (x .state .lines) (x .state .frames) (x .state .omf) (x .memory .groups) (x .memory .history)
+
+abbrev pub lengthsIn : Memory → Pieces
+lengthsIn m =
+    record {
+      archive = length (m .archive);
+      pool = length (m .pool);
+      groups = length (m .groups);
+      table = length (m .table);
+      owners = length (m .owners);
+      history = length (m .history);
+    }
+
+-- All that lies past the first so many elements of each piece.
+abbrev pub pastIn : Pieces → Memory → Memory
+pastIn n m =
+    record {
+      archive = drop (n .archive) (m .archive);
+      pool = drop (n .pool) (m .pool);
+      groups = drop (n .groups) (m .groups);
+      table = drop (n .table) (m .table);
+      owners = drop (n .owners) (m .owners);
+      history = drop (n .history) (m .history);
+    }
+
+-- The index from OMF of the frame that lies j marks back.
+abbrev pub indexBack : State → ℕ → ℕ
+indexBack s j = liveIn s - 1 - j
+
+-- A version in the pool: in the page of its frame and block.
+unfoldable pub versionAt : Storage → (index line : ℕ) → Line
+versionAt x i l =
+    pageLine (x .memory .pool) (getD (x .memory .table) (placeAt (writtenIn x) (frameAt (x .state .frames) (x .state .omf) i) (l / 8)) 0) (l % 8)
+
+-- Figure 2's frames: a line of a live frame is written if its bit is effective.
+unfoldable pub frameIn : Storage → (back line : ℕ) → Option Line
+frameIn x j l =
+    cond (ltb j (liveIn (x .state)) && (ltb l (x .state .lines) && effective (writtenIn x) (indexBack (x .state) j) l))
+    (some (versionAt x (indexBack (x .state) j) l)) none
+
+unfoldable pub archiveIn : Storage → ℕ → Line
+archiveIn x l = cond (ltb l (x .state .lines)) (archiveLine (x .memory .archive) l) zeros
+
+-- The most recent version of a line, and the number of the frame that has it.
+unfoldable pub latestIn : Storage → ℕ → Line
+latestIn x l = versionIn (liveIn (x .state)) (λ j. frameIn x j l) (archiveIn x l)
+
+unfoldable pub frameNumber : State → call.Origin → ℕ
+frameNumber s from-cache = archive
+frameNumber s (from-frame j) = frameAt (s .frames) (s .omf) (indexBack s j)
+frameNumber s from-archive = archive
+
+unfoldable pub newestFrame : Storage → ℕ → ℕ
+newestFrame x l = frameNumber (x .state) (foundIn (liveIn (x .state)) (λ j. isWritten (frameIn x j l)))
+
+-- Bytes and frame of a line's most recent version, and a cache whose valid entries have them: "It is write-through".
+abbrev pub Recent : Storage → (line frame : ℕ) → Line → Type 0
+Recent x l frame bytes = (bytes ≡ latestIn x l) × (frame ≡ newestFrame x l)
+
+abbrev pub Coherent : Storage → Type 0
+Coherent x = All (Recent x) (x .state .cache)
+
+-- Well-formedness, which CHECK decides.
+pub record WellStore (x : Storage) : Type 0 where
+  -- the state is within its limits and the lent memory is long enough: else every call but RESET is refused
+  pub fits : stateFits (settingsIn (x .state)) (x .state .cmf) (x .state .omf) ≡ true
+  pub long : enough (settingsIn (x .state)) (lengthsIn (x .memory)) ≡ true
+  -- every stored bit has a tag that the history knows, and only live frames have effective ones: else a frame could open with lines that
+  -- were taken back
+  pub bits : WellBits (writtenIn x) (x .state .tag) (liveIn (x .state))
+  -- every needed place has its page, and the page knows it: else two lines would share their bytes
+  pub pages :
+      Confirmed (neededAt (writtenIn x)) (placesOf (writtenIn x)) (x .state .pages) (λ y. getD (x .memory .table) y 0)
+      (λ p. getD (x .memory .owners) p 0)
+  -- the cache's arrays are as long as their type has it: else an entry could stand outside the 16 sets
+  pub sized : Sized (x .state .cache)
+  -- a version and a line of the archive are 16 bytes, as the type of lent bytes has it: else no history could have written them
+  pub version-line : (j l : ℕ) (v : Line) → frameIn x j l ≡ some v → IsLine v
+  pub archive-line : (l : ℕ) → IsLine (archiveIn x l)
+  -- each valid entry of the cache is in its own set, once, and below L: else a line could be found twice, with different bytes,
+  pub entries : WellCache (settingsIn (x .state)) (shown (x .state .cache))
+  -- and has its line's most recent bytes and frame: else a read that hits would be wrong, or a rollback would forget the wrong ones
+  pub coherent : Coherent x
+
+-- The store's kind of storage, at which its functions cite the promise of `rules`.
+abbrev pub store : Kind
+store =
+    record {
+      Storage = Storage;
+      settings = λ x. settingsIn (x .state);
+      cmf = λ x. x .state .cmf;
+      omf = λ x. x .state .omf;
+      lengths = λ x. lengthsIn (x .memory);
+      Rest = Memory;
+      past = λ n x. pastIn n (x .memory);
+      Well = WellStore;
+      frame = frameIn;
+      archive = archiveIn;
+      cache = λ x. shown (x .state .cache);
+    }

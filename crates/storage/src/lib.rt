@@ -1,0 +1,225 @@
+// The state and the lent memory of a store, and the tests of settings, state and lent lengths that come before every call.
+use cache::Cache;
+use rules::Need;
+ghost use mathlib.Core.Path.{_≡_};
+ghost use mathlib.Core.Bool.{true};
+ghost use Prim.Native.Nat.{_^_};
+ghost use lib.Dec.{ltb};
+ghost use Rattle.rules.specs.Sizing.{settingsOf};
+ghost use Rattle.rules.specs.Refusal.{unless, isWidth, askedRefusal, lineRefusal, markedRefusal, placeRefusal, writeRefusal};
+ghost use Rattle.storage.specs.Storage.{settingsIn, liveIn, memoryOf, lengthsIn};
+ghost use Rattle.storage.specs.Admit.{piecesOf, inElements, covers, admitted};
+
+// The state goes in by value and comes back by value. It may hold anything: each call tests it first.
+pub struct State {
+    pub lines: u32,
+    pub frames: u32,
+    pub pages: u32,
+    pub cmf: u32,
+    pub omf: u32,
+    pub tag: u32,
+    pub hint: u32,
+    pub cache: Cache,
+}
+
+// The lengths of the lent pieces, in elements.
+pub struct Lengths {
+    pub archive: usize,
+    pub pool: usize,
+    pub groups: usize,
+    pub table: usize,
+    pub owners: usize,
+    pub history: usize,
+}
+
+// The lengths of the pieces lent.
+pub fn measure(
+    archive: &[u8],
+    pool: &[u8],
+    groups: &[u32],
+    table: &[u16],
+    owners: &[u32],
+    history: &[u16],
+) -> Lengths
+    ensures { λ r. ⌜ piecesOf r ≡ lengthsIn (memoryOf (now (archive .entry)) (now (pool .entry)) (now (groups .entry)) (now (table .entry)) (now (owners .entry)) (now (history .entry))) ⌝ }
+{
+    Lengths {
+        archive: archive.len(),
+        pool: pool.len(),
+        groups: groups.len(),
+        table: table.len(),
+        owners: owners.len(),
+        history: history.len(),
+    }
+}
+
+// Whether each piece is as long as the sizing call says, or longer.
+fn is_covered(need: Need, lengths: Lengths) -> bool
+    ensures { λ r. ⌜ r ≡ covers (inElements need) (piecesOf lengths) ⌝ }
+{
+    if lengths.archive < need.archive {
+        return false;
+    }
+    if lengths.pool < need.pool {
+        return false;
+    }
+    if lengths.groups < need.groups / 4 {
+        return false;
+    }
+    if lengths.table < need.table / 2 {
+        return false;
+    }
+    if lengths.owners < need.owners / 4 {
+        return false;
+    }
+    if lengths.history < need.history / 2 {
+        return false;
+    }
+    true
+}
+
+// 4 and 6, for the settings asked for.
+pub fn asked_refusal(lines: u32, frames: u32, pages: u32, lengths: Lengths) -> u32
+    ensures { λ r. ⌜ r ≡ askedRefusal (piecesOf lengths) (settingsOf lines frames pages) ⌝ }
+{
+    let need = rules::sizes(lines, frames, pages);
+    if need.refusal != 0 {
+        return 4;
+    }
+    if is_covered(need, lengths) {
+        return 0;
+    }
+    6
+}
+
+// 5 and 6, which every call but RESET tests first.
+pub fn admit(state: State, lengths: Lengths) -> u32
+    ensures { λ r. ⌜ r ≡ admitted (settingsOf (state .lines) (state .frames) (state .pages)) (state .cmf) (state .omf) (piecesOf lengths) 0 ⌝ }
+{
+    if state.frames <= state.cmf {
+        return 5;
+    }
+    if state.frames <= state.omf {
+        return 5;
+    }
+    let refusal = asked_refusal(state.lines, state.frames, state.pages, lengths);
+    if refusal == 4 {
+        return 5;
+    }
+    refusal
+}
+
+// 5, 6 and 9: the tests of LINE and its companion.
+pub fn admit_line(state: State, lengths: Lengths, line: u32) -> u32
+    ensures { λ r. ⌜ r ≡ admitted (settingsIn state) (state .cmf) (state .omf) (piecesOf lengths) (lineRefusal (settingsIn state) line) ⌝ }
+{
+    let refusal = admit(state, lengths);
+    if refusal != 0 {
+        return refusal;
+    }
+    if line < state.lines {
+        return 0;
+    }
+    9
+}
+
+// 5, 6 and 12: the tests of MARK.
+pub fn admit_mark(state: State, lengths: Lengths) -> u32
+    ensures { λ r. ⌜ r ≡ admitted (settingsIn state) (state .cmf) (state .omf) (piecesOf lengths) (unless (ltb (liveIn state) (state .frames)) 12 0) ⌝ }
+{
+    let refusal = admit(state, lengths);
+    if refusal != 0 {
+        return refusal;
+    }
+    if frames::live(state.cmf, state.omf, state.frames) < state.frames {
+        return 0;
+    }
+    12
+}
+
+// 5, 6 and 11: the tests of ROLLBACK and ADVANCE.
+pub fn admit_frames(state: State, lengths: Lengths, k: u32) -> u32
+    ensures { λ r. ⌜ r ≡ admitted (settingsIn state) (state .cmf) (state .omf) (piecesOf lengths) (markedRefusal (liveIn state) k) ⌝ }
+{
+    let refusal = admit(state, lengths);
+    if refusal != 0 {
+        return refusal;
+    }
+    if k == 0 {
+        return 11;
+    }
+    if k < frames::live(state.cmf, state.omf, state.frames) {
+        return 0;
+    }
+    11
+}
+
+// Whether a width is one of the three.
+fn is_width(width: u32) -> bool
+    ensures { λ r. ⌜ r ≡ isWidth width ⌝ }
+{
+    if width == 1 {
+        return true;
+    }
+    if width == 2 {
+        return true;
+    }
+    if width == 4 {
+        return true;
+    }
+    false
+}
+
+// 5 to 9: the tests of READ. The address may be any number: nothing is added to it.
+pub fn admit_place(state: State, lengths: Lengths, width: u32, address: u32) -> u32
+    ensures { λ r. ⌜ r ≡ admitted (settingsIn state) (state .cmf) (state .omf) (piecesOf lengths) (placeRefusal (settingsIn state) width address 0) ⌝ }
+{
+    let refusal = admit(state, lengths);
+    if refusal != 0 {
+        return refusal;
+    }
+    if !is_width(width) {
+        return 7;
+    }
+    if address % width != 0 {
+        return 8;
+    }
+    if 16 * state.lines - width < address {
+        return 9;
+    }
+    0
+}
+
+// Whether a value has no more bytes than the width.
+fn is_value(width: u32, value: u32) -> bool
+    requires { ⌜ isWidth width ≡ true ⌝ }
+    ensures { λ r. ⌜ r ≡ ltb value (256 ^ width) ⌝ }
+{
+    if width == 1 {
+        if value < 256 {
+            return true;
+        }
+        return false;
+    }
+    if width == 2 {
+        if value < 65536 {
+            return true;
+        }
+        return false;
+    }
+    true
+}
+
+// 5 to 10: the tests of WRITE that come before 13.
+pub fn admit_write(state: State, lengths: Lengths, width: u32, address: u32, value: u32) -> u32
+    ensures { λ r. ⌜ r ≡ admitted (settingsIn state) (state .cmf) (state .omf) (piecesOf lengths) (writeRefusal (settingsIn state) width address value 0) ⌝ }
+{
+    let refusal = admit_place(state, lengths, width, address);
+    if refusal != 0 {
+        return refusal;
+    }
+    if is_value(width, value) {
+        return 0;
+    }
+    10
+}

@@ -1,0 +1,116 @@
+-- Where the newest version of a line stands, up to the frame of an index, and its bytes.
+use Prim.Native.Nat.{ℕ, _+_, _-_, _*_, _/_, _%_, _≤_, _<_}
+use mathlib.Core.Path.{_≡_}
+use mathlib.Core.Bool.{cond}
+use mathlib.Core.List.{List}
+use lib.Dec.{ltb}
+use lib.ListN.{length, getD}
+use Rattle.rules.specs.Line.{Line}
+use Rattle.rules.specs.Call as call
+use Rattle.rules.specs.Call.Origin.{from-cache, from-frame, from-archive}
+use Rattle.frames.specs.Circle.{frameAt}
+use Rattle.frames.specs.declared.Found.{Found}
+use Rattle.frames.specs.declared.Found.the-variants.{At, Nothing}
+use Rattle.written.specs.Bits.{Written, newestFrom}
+use Rattle.pages.specs.Lines.{pageLine, archiveLine}
+use Rattle.pages.specs.Table.{AsksTable}
+use Rattle.cache.specs.declared.Cache.{Cache}
+use Rattle.cache.specs.declared.Entry.{Entry}
+use Rattle.cache.specs.declared.Entry.the-variants.{Hit, Miss}
+use Rattle.cache.specs.Entries.{found, frameOf, bytesOf}
+use Rattle.cache.specs.Steps.{archive}
+use Rattle.versions.specs.declared.Spot.{Spot}
+use Rattle.versions.specs.declared.Spot.the-variants.{Page, Archive}
+use Rattle.versions.specs.declared.Origin as code
+use Rattle.versions.specs.declared.Origin.the-variants as origin
+use Rattle.versions.specs.declared.Version.{Version}
+
+-- "A page holds 8 neighbouring lines of one frame": where the table has the page of a line in a frame, and what it has there for the
+-- frame of an index.
+abbrev pub entryPlace : (lines frame line : ℕ) → ℕ
+entryPlace lines f l = f * (lines / 8) + l / 8
+
+unfoldable pub pageOf : (lines frames omf : ℕ) → (table : List ℕ) → (index line : ℕ) → ℕ
+pageOf lines frames omf table i l = getD table (entryPlace lines (frameAt frames omf i) l) 0
+
+-- Where a version stands that a search found: in the page that the table names, or else in the archive. A number that is no page's,
+-- which no well-formed table names, counts as the archive.
+unfoldable pub spotOf : (lines frames omf pages : ℕ) → (table : List ℕ) → (line : ℕ) → Found → Spot
+spotOf lines frames omf pages table l (At i) =
+    cond (ltb (pageOf lines frames omf table i l) pages) (Page (pageOf lines frames omf table i l)) Archive
+spotOf lines frames omf pages table l Nothing = Archive
+
+-- The line that stands there.
+unfoldable pub contentOf : (archive pool : List ℕ) → (line : ℕ) → Spot → Line
+contentOf archive pool l (Page p) = pageLine pool p (l % 8)
+contentOf archive pool l Archive = archiveLine archive l
+
+-- The frame's number, as the cache has it,
+unfoldable pub numberOf : (frames omf : ℕ) → Found → ℕ
+numberOf frames omf (At i) = frameAt frames omf i
+numberOf frames omf Nothing = archive
+
+-- and READ's origin: "a frame given by how many marks back it lies (0 is CMF), or the archive".
+unfoldable pub backIn : (live : ℕ) → Found → code.Origin
+backIn live (At i) = origin.Frame (live - 1 - i)
+backIn live Nothing = origin.Archive
+
+-- Document 01's origin for each case of the answer's.
+unfoldable pub originOf : code.Origin → call.Origin
+originOf origin.Cache = from-cache
+originOf (origin.Frame back) = from-frame back
+originOf origin.Archive = from-archive
+
+-- The most recent version of a line among the live frames and the archive,
+unfoldable pub newestOf : Written → (pages live : ℕ) → (archive pool table : List ℕ) → (line : ℕ) → Version
+newestOf w pages live archive pool table l =
+    let f = newestFrom w l (live - 1) in
+    record {
+      content = contentOf archive pool l (spotOf (w .lines) (w .frames) (w .omf) pages table l f);
+      frame = numberOf (w .frames) (w .omf) f;
+      origin = backIn live f;
+    }
+
+-- or as an entry of the cache has it.
+unfoldable pub latestFrom : Cache → Version → Entry → Version
+latestFrom c other (Hit e) = record { content = bytesOf c e; frame = frameOf c e; origin = origin.Cache }
+latestFrom c other Miss = other
+
+unfoldable pub latestOf : Cache → Written → (pages live : ℕ) → (archive pool table : List ℕ) → (line : ℕ) → Version
+latestOf c w pages live archive pool table l = latestFrom c (newestOf w pages live archive pool table l) (found c l)
+
+-- What the functions ask of the numbers and the lent lengths; the store tests it.
+pub record AsksEntry (lines frame line long : ℕ) : Type 0 where
+  pub lines-few : lines ≤ 4096
+  pub frame-few : frame ≤ 4096
+  pub line-few : line ≤ 4096
+  pub entry-below : entryPlace lines frame line < long
+
+pub record AsksSpot (lines frames omf line : ℕ) (found : Found) (long : ℕ) : Type 0 where
+  pub lines-by : lines % 8 ≡ 0
+  pub lines-few : lines ≤ 4096
+  pub frames-few : frames ≤ 4096
+  pub omf-below : omf < frames
+  pub line-below : line < lines
+  pub index-below : (i : ℕ) → found ≡ At i → i < frames
+  pub table-long : frames * (lines / 8) ≤ long
+
+pub record AsksContent (lines pages line : ℕ) (spot : Spot) (archive pool : ℕ) : Type 0 where
+  pub lines-by : lines % 8 ≡ 0
+  pub lines-few : lines ≤ 4096
+  pub line-below : line < lines
+  pub pages-few : pages ≤ 4096
+  pub page-below : (p : ℕ) → spot ≡ Page p → p < pages
+  pub archive-long : 16 * lines ≤ archive
+  pub pool-long : 128 * pages ≤ pool
+
+-- What is asked to find a line's newest version among the live frames.
+pub record AsksNewest (w : Written) (pages live line : ℕ) (archive pool table : List ℕ) : Type 0 where
+  pub asks : AsksTable w table
+  pub frames-few : w .frames ≤ 256
+  pub live-some : 0 < live
+  pub live-within : live ≤ w .frames
+  pub line-below : line < w .lines
+  pub pages-few : pages ≤ 4096
+  pub archive-long : 16 * w .lines ≤ length archive
+  pub pool-long : 128 * pages ≤ length pool

@@ -1,0 +1,72 @@
+-- What RESET, ADVANCE and WRITE do to archive, pool, table and owners.
+use Prim.Native.Nat.{ℕ, zero, suc, _+_, _-_, _*_, _/_, _%_, _≤_, _<_, min}
+use mathlib.Core.Path.{_≡_}
+use mathlib.Core.Bool.{cond}
+use mathlib.Core.List.{List}
+use lib.Dec.{ltb}
+use lib.ListN.{length, getD, set}
+use Rattle.rules.specs.Line.{Line}
+use Rattle.rules.specs.Seen.{needs}
+use Rattle.frames.specs.Circle.{indexOf, frameAt}
+use Rattle.frames.specs.Lists.{rewrite}
+use Rattle.frames.specs.declared.Found.{Found}
+use Rattle.frames.specs.declared.Found.the-variants.{At, Nothing}
+use Rattle.written.specs.Bits.{Written, effective, newestFrom}
+use Rattle.written.specs.Steps.{withWritten}
+use Rattle.pages.specs.Lines.{pageLine, withPageLine, withArchiveLine}
+use Rattle.pages.specs.Table.{AsksTable, heldAt, given}
+use Rattle.versions.specs.declared.Spot.{Spot}
+use Rattle.versions.specs.declared.Spot.the-variants.{Page, Archive}
+use Rattle.versions.specs.Newest.{entryPlace, spotOf}
+
+-- RESET: "archive all zero".
+unfoldable pub zeroed : (lines : ℕ) → List ℕ → List ℕ
+zeroed lines archive = rewrite (16 * lines) (λ _ b. 0) archive
+
+-- ADVANCE(k): "folds the k oldest frames into the archive, newest version of each line winning". A line whose newest version among
+-- them stands in a page is copied; the others stay.
+unfoldable pub foldedLine : (archive pool : List ℕ) → (line : ℕ) → Spot → List ℕ
+foldedLine archive pool l (Page p) = withArchiveLine archive l (pageLine pool p (l % 8))
+foldedLine archive pool l Archive = archive
+
+-- The archive with the first n lines folded.
+unfoldable pub folded : Written → (pages k : ℕ) → (pool table : List ℕ) → (n : ℕ) → List ℕ → List ℕ
+folded w pages k pool table zero archive = archive
+folded w pages k pool table (suc n) archive =
+    foldedLine (folded w pages k pool table n archive) pool n
+    (spotOf (w .lines) (w .frames) (w .omf) pages table n (newestFrom w n (k - 1)))
+
+-- The page that a write to a line in a frame goes to: the one that the table names where the line's block is needed in the frame
+-- already, and else one that is given out. Nothing: no page is free.
+unfoldable pub pageFor : Written → (pages hint : ℕ) → (table owners : List ℕ) → (frame line : ℕ) → Found
+pageFor w pages hint table owners f l =
+    cond (needs (effective w (indexOf (w .frames) (w .omf) f)) (l / 8))
+    (cond (ltb (getD table (entryPlace (w .lines) f l) 0) pages) (At (getD table (entryPlace (w .lines) f l) 0)) Nothing)
+    (given pages (min hint pages) (heldAt w table owners))
+
+-- What is asked to give a write its page,
+pub record AsksPageFor (w : Written) (pages frame line : ℕ) (table owners : List ℕ) : Type 0 where
+  pub asks : AsksTable w table
+  pub line-below : line < w .lines
+  pub frame-below : frame < w .frames
+  pub owners-long : pages ≤ length owners
+
+-- and to put a line there, in the frame of an index: the line is copied to its slot, the page is the place's, and the written bit is set.
+pub record AsksPut (w : Written) (pages tag line index page : ℕ) (pool table owners : List ℕ) : Type 0 where
+  pub asks : AsksTable w table
+  pub line-below : line < w .lines
+  pub index-below : index < w .frames
+  pub tag-below : tag < 256
+  pub pages-few : pages ≤ 4096
+  pub page-below : page < pages
+  pub pool-long : 128 * pages ≤ length pool
+  pub owners-long : pages ≤ length owners
+
+-- What a fold asks: k frames, and the lengths.
+pub record AsksFold (w : Written) (pages k : ℕ) (archive pool table : List ℕ) : Type 0 where
+  pub asks : AsksTable w table
+  pub k-some : 0 < k
+  pub k-below : k < w .frames
+  pub pages-few : pages ≤ 4096
+  pub archive-long : 16 * w .lines ≤ length archive
+  pub pool-long : 128 * pages ≤ length pool

@@ -1,0 +1,289 @@
+// Versions of lines in lent memory: where the newest one stands and its bytes, folding versions into the archive, and putting a new one
+// in its page. Every function is safe on any contents; what the `requires` ask of numbers and lengths is tested by the store, and only our
+// own crates call them.
+use cache::Cache;
+use cache::Entry;
+use frames::Found;
+ghost use mathlib.Core.Path.{_≡_};
+ghost use Prim.Native.Nat.{_*_, _%_, _≤_, _<_};
+ghost use lib.ListN;
+ghost use lib.ListN.{length, getD};
+ghost use Rattle.frames.specs.Circle.{frameAt};
+ghost use Rattle.written.specs.Bits.{writtenOf};
+ghost use Rattle.written.specs.Steps.{withWritten};
+ghost use Rattle.pages.specs.Lines.{withPageLine};
+ghost use Rattle.versions.specs.Newest.{entryPlace, spotOf, contentOf, newestOf, latestOf, AsksEntry, AsksSpot, AsksContent, AsksNewest};
+ghost use Rattle.versions.specs.Steps.{zeroed, foldedLine, folded, pageFor, AsksPageFor, AsksPut, AsksFold};
+
+// Where a version stands: in a page of the pool, in the slot of its line, or in the archive.
+pub enum Spot {
+    Page(u32),
+    Archive,
+}
+
+// Where a read finds its line: in the cache, in the frame that lies so many marks back, or in the archive.
+pub enum Origin {
+    Cache,
+    Frame(u32),
+    Archive,
+}
+
+// The most recent version of a line: its bytes, the number of its frame as the cache has it, and its origin.
+pub struct Version {
+    pub content: [u8; 16],
+    pub frame: u16,
+    pub origin: Origin,
+}
+
+// Where the table has the page of a line in a frame.
+fn place_of(lines: u32, frame: u32, line: u32) -> u32
+    requires { ⌜ (lines ≤ 4096) × (frame ≤ 4096) × (line ≤ 4096) ⌝ }
+    ensures { λ r. ⌜ r ≡ entryPlace lines frame line ⌝ }
+{
+    frame * (lines / 8) + line / 8
+}
+
+// What the table has there.
+fn entry(table: &[u16], lines: u32, frame: u32, line: u32) -> u32
+    requires { ⌜ AsksEntry lines frame line (length (now table)) ⌝ }
+    ensures { λ r. ⌜ (r ≡ getD (now (table .entry)) (entryPlace lines frame line) 0) × (r < 65536) ⌝ }
+{
+    let place = place_of(lines, frame, line) as usize;
+    frames::wide(table[place])
+}
+
+// Where a version that a search found stands.
+pub fn locate(
+    table: &[u16],
+    lines: u32,
+    frames: u32,
+    omf: u32,
+    pages: u32,
+    line: u32,
+    found: Found,
+) -> Spot
+    requires { ⌜ AsksSpot lines frames omf line found (length (now table)) ⌝ }
+    ensures { λ r. ⌜ r ≡ spotOf lines frames omf pages (now (table .entry)) line found ⌝ }
+{
+    match found {
+        Found::At(i) => {
+            let page = entry(table, lines, frames::frame_at(i, omf, frames), line);
+            if page < pages {
+                return Spot::Page(page);
+            }
+            Spot::Archive
+        }
+        Found::Nothing => Spot::Archive,
+    }
+}
+
+// The 16 bytes of the version of a line that stands there.
+pub fn content_at(
+    archive: &[u8],
+    pool: &[u8],
+    lines: u32,
+    pages: u32,
+    line: u32,
+    spot: Spot,
+) -> [u8; 16]
+    requires { ⌜ AsksContent lines pages line spot (length (now archive)) (length (now pool)) ⌝ }
+    ensures { λ r. ⌜ r ≡ contentOf (now (archive .entry)) (now (pool .entry)) line spot ⌝ }
+{
+    match spot {
+        Spot::Page(page) => pages::lines::read_page_line(pool, page, line % 8),
+        Spot::Archive => pages::lines::read_archive_line(archive, line),
+    }
+}
+
+// The most recent version of a line among the live frames and the archive, the cache apart.
+pub fn newest(
+    archive: &[u8],
+    pool: &[u8],
+    groups: &[u32],
+    table: &[u16],
+    history: &[u16],
+    lines: u32,
+    frames: u32,
+    omf: u32,
+    pages: u32,
+    live: u32,
+    line: u32,
+) -> Version
+    requires { ⌜ AsksNewest (writtenOf lines frames omf (now groups) (now history)) pages live line (now archive) (now pool) (now table) ⌝ }
+    ensures { λ r. ⌜ r ≡ newestOf (writtenOf lines frames omf (now (groups .entry)) (now (history .entry))) pages live (now (archive .entry)) (now (pool .entry)) (now (table .entry)) line ⌝ }
+{
+    let found = written::search(groups, history, lines, frames, omf, line, live - 1);
+    let at = locate(table, lines, frames, omf, pages, line, found);
+    let content = content_at(archive, pool, lines, pages, line, at);
+    match found {
+        Found::At(i) => Version {
+            content,
+            frame: frames::frame_at(i, omf, frames) as u16,
+            origin: Origin::Frame(live - 1 - i),
+        },
+        Found::Nothing => Version {
+            content,
+            frame: cache::ARCHIVE,
+            origin: Origin::Archive,
+        },
+    }
+}
+
+// The same from the cache, where it holds the line.
+pub fn latest(
+    cache: Cache,
+    archive: &[u8],
+    pool: &[u8],
+    groups: &[u32],
+    table: &[u16],
+    history: &[u16],
+    lines: u32,
+    frames: u32,
+    omf: u32,
+    pages: u32,
+    live: u32,
+    line: u32,
+) -> Version
+    requires { ⌜ AsksNewest (writtenOf lines frames omf (now groups) (now history)) pages live line (now archive) (now pool) (now table) ⌝ }
+    ensures { λ r. ⌜ r ≡ latestOf cache (writtenOf lines frames omf (now (groups .entry)) (now (history .entry))) pages live (now (archive .entry)) (now (pool .entry)) (now (table .entry)) line ⌝ }
+{
+    match cache::find(cache, line) {
+        Entry::Hit(entry) => Version {
+            content: cache::line_at(cache, entry),
+            frame: cache::frame_of(cache, entry),
+            origin: Origin::Cache,
+        },
+        Entry::Miss => newest(
+            archive,
+            pool,
+            groups,
+            table,
+            history,
+            lines,
+            frames,
+            omf,
+            pages,
+            live,
+            line,
+        ),
+    }
+}
+
+// Zeroes the archive's lines.
+pub fn zero(archive: &mut [u8], lines: u32)
+    requires { ⌜ (lines ≤ 4096) × (16 * lines ≤ length (now archive)) ⌝ }
+    ensures { λ _. ⌜ now (archive .exit) ≡ zeroed lines (now (archive .entry)) ⌝ }
+{
+    let count = 16 * lines;
+    let mut at = 0;
+    while at < count {
+        archive[at as usize] = 0;
+        at = at + 1;
+    }
+}
+
+// Copies a version that stands in a page to its line of the archive.
+fn fold_line(archive: &mut [u8], pool: &[u8], lines: u32, pages: u32, line: u32, spot: Spot)
+    requires { ⌜ AsksContent lines pages line spot (length (now archive)) (length (now pool)) ⌝ }
+    ensures { λ _. ⌜ now (archive .exit) ≡ foldedLine (now (archive .entry)) (now (pool .entry)) line spot ⌝ }
+{
+    match spot {
+        Spot::Page(page) => {
+            let content = pages::lines::read_page_line(pool, page, line % 8);
+            pages::lines::write_archive_line(archive, line, content);
+        }
+        Spot::Archive => {}
+    }
+}
+
+// Folds the versions of the k oldest frames into the archive, line after line.
+pub fn fold(
+    archive: &mut [u8],
+    pool: &[u8],
+    groups: &[u32],
+    table: &[u16],
+    history: &[u16],
+    lines: u32,
+    frames: u32,
+    omf: u32,
+    pages: u32,
+    k: u32,
+)
+    requires { ⌜ AsksFold (writtenOf lines frames omf (now groups) (now history)) pages k (now archive) (now pool) (now table) ⌝ }
+    ensures { λ _. ⌜ now (archive .exit) ≡ folded (writtenOf lines frames omf (now (groups .entry)) (now (history .entry))) pages k (now (pool .entry)) (now (table .entry)) lines (now (archive .entry)) ⌝ }
+{
+    let mut line = 0;
+    while line < lines {
+        let found = written::search(groups, history, lines, frames, omf, line, k - 1);
+        let at = locate(table, lines, frames, omf, pages, line, found);
+        fold_line(archive, pool, lines, pages, line, at);
+        line = line + 1;
+    }
+}
+
+// The page that a write to a line in a frame goes to.
+pub fn page_for(
+    groups: &[u32],
+    history: &[u16],
+    table: &[u16],
+    owners: &[u32],
+    lines: u32,
+    frames: u32,
+    omf: u32,
+    pages: u32,
+    hint: u32,
+    frame: u32,
+    line: u32,
+) -> Found
+    requires { ⌜ AsksPageFor (writtenOf lines frames omf (now groups) (now history)) pages frame line (now table) (now owners) ⌝ }
+    ensures { λ r. ⌜ r ≡ pageFor (writtenOf lines frames omf (now (groups .entry)) (now (history .entry))) pages hint (now (table .entry)) (now (owners .entry)) frame line ⌝ }
+{
+    if written::needed(groups, history, lines, frames, omf, frame, line / 8) {
+        let page = entry(table, lines, frame, line);
+        if page < pages {
+            return Found::At(page);
+        }
+        return Found::Nothing;
+    }
+    pages::table::give(
+        groups,
+        history,
+        table,
+        owners,
+        lines,
+        frames,
+        omf,
+        pages,
+        hint,
+    )
+}
+
+// Puts a version of a line in a page, in the frame of an index: the bytes go to the line's slot, the page to the place of frame and
+// block, and the written bit is set.
+pub fn put(
+    pool: &mut [u8],
+    groups: &mut [u32],
+    table: &mut [u16],
+    owners: &mut [u32],
+    history: &[u16],
+    lines: u32,
+    frames: u32,
+    omf: u32,
+    tag: u32,
+    pages: u32,
+    line: u32,
+    index: u32,
+    page: u32,
+    content: [u8; 16],
+)
+    requires { ⌜ AsksPut (writtenOf lines frames omf (now groups) (now history)) pages tag line index page (now pool) (now table) (now owners) ⌝ }
+    ensures bytes { λ _. ⌜ now (pool .exit) ≡ withPageLine (now (pool .entry)) page (line % 8) content ⌝ }
+    ensures bit { λ _. ⌜ now (groups .exit) ≡ withWritten (writtenOf lines frames omf (now (groups .entry)) (now (history .entry))) tag line index ⌝ }
+    ensures table { λ _. ⌜ now (table .exit) ≡ ListN.set (now (table .entry)) (entryPlace lines (frameAt frames omf index) line) page ⌝ }
+    ensures owner { λ _. ⌜ now (owners .exit) ≡ ListN.set (now (owners .entry)) page (entryPlace lines (frameAt frames omf index) line) ⌝ }
+{
+    pages::lines::write_page_line(pool, page, line % 8, content);
+    let place = place_of(lines, frames::frame_at(index, omf, frames), line);
+    pages::table::claim(table, owners, place, page as u16);
+    written::set(groups, history, lines, frames, omf, tag, line, index);
+}

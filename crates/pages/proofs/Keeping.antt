@@ -14,7 +14,7 @@ use Rattle.rules.specs.Seen.{needs}
 use Rattle.rules.proofs.Count.{any-found, any-true}
 use Rattle.rules.proofs.Tests.{both-true}
 use Rattle.frames.specs.Circle.{frameAt, indexOf}
-use Rattle.frames.proofs.Circle.{frame-below, index-below, frame-index}
+use Rattle.frames.proofs.Circle.{index-frame, frame-below, index-below, frame-index}
 use Rattle.written.specs.Bits.{Written, Lent, Asks, effective}
 use Rattle.written.specs.Steps.{RolledBack}
 use Rattle.written.specs.Well.{WellBits}
@@ -69,6 +69,13 @@ needed-line w y b e =
 line-needed : (w : Written) (y l : ℕ) → l / 8 ≡ y % blocksOf w → effective w (indexOf (w .frames) (w .omf) (y / blocksOf w)) l ≡ true → neededAt w y ≡ true
 unfolding neededAt
 line-needed w y l d e = line-needs (effective w (indexOf (w .frames) (w .omf) (y / blocksOf w))) (y % blocksOf w) l d e
+
+-- The place of a line with an effective bit is needed.
+pub effective-needed : (w : Written) (i l : ℕ) → w .omf < w .frames → i < w .frames → l / 8 < blocksOf w → effective w i l ≡ true
+    → neededAt w (placeAt w (frameAt (w .frames) (w .omf) i) (l / 8)) ≡ true
+effective-needed w i l h b c e =
+    needed-place w (frameAt (w .frames) (w .omf) i) (l / 8) c
+    ∙ line-needs (effective w (indexOf (w .frames) (w .omf) (frameAt (w .frames) (w .omf) i))) (l / 8) l refl (ap (λ (k : ℕ). effective w k l) (index-frame (w .frames) (w .omf) h i b) ∙ e)
 
 either-true : (a b : Bool) → (a || b) ≡ true → (a ≡ true) ⊎ (b ≡ true)
 either-true true b e = inl refl

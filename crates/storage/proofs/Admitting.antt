@@ -10,14 +10,16 @@ use lib.ListN.{length}
 use Rattle.rules.specs.Settings.{Settings, Pieces, within, elements, enough, bytes}
 use Rattle.rules.specs.declared.Need.{Need}
 use Rattle.rules.specs.Sizing.{sizing, sizesOf, noSizes}
-use Rattle.rules.specs.Refusal.{unless, stateFits, askedRefusal}
+use Rattle.rules.specs.Refusal.{unless, liveFrames, stateFits, askedRefusal}
 use Rattle.rules.proofs.Tests.{both-true}
 use Rattle.rules.proofs.Settings.{Good, within-good}
 use Rattle.rules.proofs.Chain.{passed}
+use Rattle.rules.proofs.Circle.{live-some, live-at-most}
 use Rattle.rules.proofs.Promise.{Fits, fits-facts}
 use Rattle.frames.specs.Circle.{Turn}
 use Rattle.written.specs.Bits.{writtenOf, Lent}
 use Rattle.pages.specs.Table.{AsksTable}
+use Rattle.versions.specs.Newest.{AsksNewest}
 use Rattle.storage.specs.Admit.{covers, inElements, admitted}
 
 -- Each piece is long enough.
@@ -191,3 +193,20 @@ module _ (s : Settings) (cmf omf archive pool owners : ℕ) (groups table histor
   pub room-pages : AsksTable (writtenOf (s .lines) (s .frames) omf groups history) table × (s .pages ≤ owners)
   unfolding elements
   room-pages = (room-table, r .long .owners)
+
+module _ (s : Settings) (cmf omf owners : ℕ) (archive pool groups table history : List ℕ)
+    (r : Room s cmf omf (record { archive = length archive; pool = length pool; groups = length groups; table = length table; owners = owners; history = length history })) where
+  pub room-newest : (live line : ℕ) → live ≡ liveFrames (s .frames) cmf omf → line < s .lines
+      → AsksNewest (writtenOf (s .lines) (s .frames) omf groups history) (s .pages) live line archive pool table
+  unfolding elements
+  room-newest live line e b =
+      record {
+        asks = room-table s cmf omf (length archive) (length pool) owners groups table history r;
+        frames-few = r .good .frames-to;
+        live-some = omega (arith, live-some (s .frames) cmf omf (r .fits .cmf-below) (r .fits .omf-below));
+        live-within = omega (arith, live-at-most (s .frames) cmf omf (r .fits .cmf-below) (r .fits .omf-below));
+        line-below = b;
+        pages-few = r .good .pages-to;
+        archive-long = r .long .archive;
+        pool-long = r .long .pool;
+      }

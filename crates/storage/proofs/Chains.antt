@@ -7,9 +7,12 @@ use native.Mathlib.Omega.{arith}
 use borrow.Author.Tests.{not-true, not-false, eqb-true, eqb-false, lt-ltb, le-ltb, le-leb, lt-leb, eq-eqb, ne-eqb}
 use lib.Dec.{ltb, leb, eqb}
 use Rattle.rules.specs.Settings.{Settings, Pieces, enough}
+use Rattle.rules.specs.Line.{lineOf, offsetOf}
 use Rattle.rules.specs.Refusal.{unless, liveFrames, stateFits, isWidth, lineRefusal, markedRefusal, placeRefusal, writeRefusal}
-use Rattle.rules.proofs.Chain.{fails, passes, passed, place-passed, marked-passed}
+use Rattle.rules.proofs.Chain.{Placed, fails, passes, passed, place-passed, marked-passed}
+use Rattle.rules.proofs.Width.{widths, in-line, line-below}
 use Rattle.rules.proofs.Circle.{live-some, live-at-most}
+use Rattle.pages.specs.Lines.{AsksBytes}
 use Rattle.storage.specs.Admit.{admitted}
 use Rattle.storage.proofs.Admitting.{Room, admitted-room}
 
@@ -222,3 +225,17 @@ frames-room s cmf omf p a k told z =
       live-some = live-some (s .frames) cmf omf (r .fits .cmf-below) (r .fits .omf-below);
       live-most = live-at-most (s .frames) cmf omf (r .fits .cmf-below) (r .fits .omf-below);
     }
+
+-- What READ and WRITE have of the place once they are admitted: its bytes lie in one line.
+pub place-bytes : (s : Settings) (w a : ℕ) → Placed s w a → AsksBytes w (offsetOf a)
+place-bytes s w a p = record { width-few = width-few w (p .width) .1; inside = in-line (widths w (p .width)) a (p .aligned) }
+
+pub record PlaceRoom (s : Settings) (cmf omf : ℕ) (p : Pieces) (w a : ℕ) : Type 0 where
+  pub room : Room s cmf omf p
+  pub line-below : lineOf a < s .lines
+  pub bytes : AsksBytes w (offsetOf a)
+
+pub place-room : (s : Settings) (cmf omf : ℕ) (p : Pieces) (r w a : ℕ) → r ≡ admitted s cmf omf p (placeRefusal s w a 0) → r ≡ 0 → PlaceRoom s cmf omf p w a
+place-room s cmf omf p r w a told z =
+    let d = place-passed s w a 0 (admitted-rest s cmf omf p r _ told z) .0 in
+    record { room = admitted-room s cmf omf p r _ told z; line-below = line-below d; bytes = place-bytes s w a d }

@@ -38,7 +38,7 @@ pages-alike lines (suc n) v w h =
     (count-same (lines / 8) _ _ (λ b c. any-same 8 _ _ (λ i d. h 0 (b * 8 + i) (omega arith) (omega arith))))
     (pages-alike lines n (λ j. v (suc j)) (λ j. w (suc j)) (λ j l b c. h (suc j) l (omega arith) c))
 
-written-effective : (x : Storage) (j l : ℕ) → j < liveIn (x .state) → l < x .state .lines
+pub written-effective : (x : Storage) (j l : ℕ) → j < liveIn (x .state) → l < x .state .lines
     → effective (writtenIn x) (liveIn (x .state) - 1 - j) l ≡ isWritten (frameIn x j l)
 unfolding frameIn isWritten
 written-effective x j l b c =

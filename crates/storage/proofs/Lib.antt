@@ -7,4 +7,6 @@ pub mod Rows
 pub mod Past
 pub mod Numbers
 pub mod Rolling
+pub mod Reading
+pub mod Using
 pub mod Marking

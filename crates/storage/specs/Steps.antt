@@ -5,9 +5,9 @@ use mathlib.Core.List.{List}
 use Rattle.written.specs.Bits.{writtenOf}
 use Rattle.written.specs.Steps.{RolledBack}
 use Rattle.cache.specs.declared.Cache.{Cache}
-use Rattle.cache.specs.Steps.{emptied, forgotten, collected}
+use Rattle.cache.specs.Steps.{emptied, placed, forgotten, collected}
 use Rattle.storage.specs.declared.State.{State}
-use Rattle.storage.specs.Storage.{liveIn}
+use Rattle.storage.specs.Storage.{Storage, liveIn, latestIn, newestFrame, WellStore}
 
 -- RESET: "one live frame .., cache empty".
 unfoldable pub freshState : (lines frames pages : ℕ) → State
@@ -52,3 +52,12 @@ advancedState s k =
 -- READ and WRITE: the cache after a use, and after a WRITE the hint for the next page.
 unfoldable pub usedState : State → (hint : ℕ) → Cache → State
 usedState s hint cache = stateWith s (s .cmf) (s .omf) (s .tag) hint cache
+
+-- READ: "A hit moves its way to most recently used. A miss, of a read or a write, takes ..": the way taken has the line's most recent
+-- version.
+unfoldable pub readState : Storage → (line : ℕ) → State
+readState x l = usedState (x .state) (x .state .hint) (placed (x .state .cache) l (newestFrame x l) (latestIn x l))
+
+-- On storage that CHECK passes.
+abbrev pub ReadTo : Storage → (line : ℕ) → State → Type 0
+ReadTo x l t = WellStore x → t ≡ readState x l

@@ -1,12 +1,15 @@
 // The store: every call of document 01, in memory that the caller lends.
 use cache::Cache;
 pub use storage::State;
+pub use versions::Origin;
 ghost use mathlib.Core.Path.{_≡_};
-ghost use Rattle.rules.specs.Call.Answer.{outcome, counting};
-ghost use Rattle.rules.specs.Call.Call.{LINE-REFUSAL, MARK, ROLLBACK, COUNTS};
+ghost use Prim.Native.Nat.{_/_};
+ghost use Rattle.rules.specs.Call.Answer.{outcome, reading, counting};
+ghost use Rattle.rules.specs.Call.Call.{READ, LINE-REFUSAL, MARK, ROLLBACK, COUNTS};
 ghost use Rattle.rules.specs.Promise.{Promise};
 ghost use Rattle.storage.specs.Storage.{storageOf, store};
-ghost use Rattle.storage.specs.Steps.{stateWith, markedState, RolledTo};
+ghost use Rattle.versions.specs.Newest.{originOf};
+ghost use Rattle.storage.specs.Steps.{stateWith, markedState, RolledTo, ReadTo};
 
 // LINE's companion: the refusal of `line` on the same arguments, or 0.
 pub fn line_refusal(
@@ -166,5 +169,68 @@ pub fn rollback(
     Outcome {
         state: state_with(state, cmf, state.omf, tag, state.hint, cache),
         refusal: 0,
+    }
+}
+
+// The value of a read and its origin, with the refusal or 0.
+pub struct Reading {
+    pub state: State,
+    pub refusal: u32,
+    pub value: u32,
+    pub origin: Origin,
+}
+
+// READ: from the cache where it holds the line, else from where the newest version stands; the cache has the line afterwards.
+pub fn read(
+    state: State,
+    archive: &[u8],
+    pool: &[u8],
+    groups: &[u32],
+    table: &[u16],
+    owners: &[u32],
+    history: &[u16],
+    width: u32,
+    address: u32,
+) -> Reading
+    ensures { λ r. ⌜ (Promise store (READ width address)
+        (storageOf state (now (archive .entry)) (now (pool .entry)) (now (groups .entry)) (now (table .entry)) (now (owners .entry)) (now (history .entry)))
+        (reading (r .refusal) (r .value) (originOf (r .origin)))
+        (storageOf (r .state) (now (archive .entry)) (now (pool .entry)) (now (groups .entry)) (now (table .entry)) (now (owners .entry)) (now (history .entry))))
+        × (r .refusal ≡ 0 → ReadTo (storageOf state (now (archive .entry)) (now (pool .entry)) (now (groups .entry)) (now (table .entry)) (now (owners .entry)) (now (history .entry))) (address / 16) (r .state)) ⌝ }
+{
+    let lengths = storage::measure(archive, pool, groups, table, owners, history);
+    let refusal = storage::admit_place(state, lengths, width, address);
+    if refusal != 0 {
+        return Reading {
+            state,
+            refusal,
+            value: 0,
+            origin: Origin::Archive,
+        };
+    }
+    let line = address / 16;
+    let held = state.cache;
+    let latest = versions::latest(
+        held,
+        archive,
+        pool,
+        groups,
+        table,
+        history,
+        state.lines,
+        state.frames,
+        state.omf,
+        state.pages,
+        frames::live(state.cmf, state.omf, state.frames),
+        line,
+    );
+    let content = latest.content;
+    let origin = latest.origin;
+    let cache = cache::place(held, line, latest.frame, content);
+    Reading {
+        state: state_with(state, state.cmf, state.omf, state.tag, state.hint, cache),
+        refusal: 0,
+        value: pages::lines::value_of(content, width, address % 16),
+        origin,
     }
 }

@@ -1,0 +1,178 @@
+-- Where the newest version of a line stands and what it is: on well-formed storage the code finds what Figure 2 does. Assumes nothing.
+use mathlib.Core.Path.{_≡_, refl, sym, _∙_, ap, ap₂, subst}
+use mathlib.Core.Bool.{Bool, true, false, cond}
+use mathlib.Core.Option.{Option, none, some, Option·getD}
+use mathlib.Core.List.{List}
+use Prim.Native.Nat.{ℕ, zero, suc, _+_, _-_, _/_, _%_, _≤_, _<_}
+use native.Mathlib.Omega.{arith}
+use borrow.Author.Tests.{lt-ltb}
+use lib.Dec.{ltb}
+use lib.ListN.{length}
+use Rattle.rules.specs.Line.{Line, IsLine, zeros}
+use Rattle.rules.specs.Call.{Origin}
+use Rattle.rules.specs.Call.Origin.{from-cache, from-frame, from-archive}
+use Rattle.rules.specs.Seen.{further}
+use Rattle.rules.specs.Figure2.{versionIn, foundIn, isWritten, mrv, figureSeen}
+use Rattle.rules.specs.Figure3.{holds}
+use Rattle.rules.specs.Promise.{figureOf, seenOf}
+use Rattle.rules.proofs.Settings.{Good, within-good}
+use Rattle.rules.proofs.Promise.{Fits, fits-facts}
+use Rattle.rules.proofs.Circle.{live-some, live-at-most}
+use Rattle.rules.proofs.History.{version-line}
+use Rattle.frames.specs.Circle.{frameAt}
+use Rattle.frames.specs.Search.{greatest}
+use Rattle.frames.specs.declared.Found.{Found}
+use Rattle.frames.specs.declared.Found.the-variants.{At, Nothing}
+use Rattle.frames.proofs.Circle.{frame-below}
+use Rattle.frames.proofs.Search.{Greatest, greatest-found}
+use Rattle.written.specs.Bits.{effective, newestFrom}
+use Rattle.written.proofs.Finding.{backOf, versionOf, found-back, version-back}
+use Rattle.pages.specs.Lines.{pageLine, archiveLine}
+use Rattle.pages.specs.Table.{placeAt}
+use Rattle.pages.proofs.Keeping.{place-within, effective-needed}
+use Rattle.cache.specs.Entries.{FoundAt, found, isHit}
+use Rattle.cache.specs.declared.Entry.{Entry}
+use Rattle.cache.specs.declared.Entry.the-variants.{Hit, Miss}
+use Rattle.cache.specs.Shown.{shown}
+use Rattle.cache.proofs.Hits.{hit-shown, found-at}
+use Rattle.versions.specs.declared.Spot.the-variants.{Page, Archive}
+use Rattle.versions.specs.declared.Version.{Version}
+use Rattle.versions.specs.Newest.{pageOf, spotOf, contentOf, numberOf, backIn, originOf, newestOf, latestFrom, latestOf}
+use Rattle.storage.specs.Storage.{Storage, settingsIn, liveIn, writtenIn, indexBack, versionAt, frameIn, archiveIn, latestIn, frameNumber, newestFrame, WellStore, store}
+use Rattle.storage.proofs.Counting.{written-effective}
+use Rattle.storage.proofs.Figures.{frame-at, well-figure}
+
+-- A search looks at the frames searched alone.
+pub version-same : (n : ℕ) (row other : ℕ → Option Line) (x : Line) → ((j : ℕ) → j < n → row j ≡ other j) → versionIn n row x ≡ versionIn n other x
+unfolding versionIn
+version-same zero row other x h = refl
+version-same (suc n) row other x h =
+    ap₂ (λ (a : Option Line) (b : Line). Option·getD a b) (h 0 (omega arith))
+    (version-same n (λ j. row (suc j)) (λ j. other (suc j)) x (λ j b. h (suc j) (omega arith)))
+
+pub found-same : (n : ℕ) (f g : ℕ → Bool) → ((j : ℕ) → j < n → f j ≡ g j) → foundIn n f ≡ foundIn n g
+unfolding foundIn
+found-same zero f g h = refl
+found-same (suc n) f g h =
+    ap₂ (λ (a : Bool) (b : Origin). cond a (from-frame 0) (further b)) (h 0 (omega arith))
+    (found-same n (λ j. f (suc j)) (λ j. g (suc j)) (λ j b. h (suc j) (omega arith)))
+
+module _ (x : Storage) (q : WellStore x) where
+  abbrev n : ℕ
+  n = liveIn (x .state)
+
+  fits : Fits (settingsIn (x .state)) (x .state .cmf) (x .state .omf)
+  fits = fits-facts (settingsIn (x .state)) (x .state .cmf) (x .state .omf) (q .fits)
+
+  good : Good (settingsIn (x .state))
+  good = within-good (settingsIn (x .state)) (fits .limits)
+
+  most : n ≤ x .state .frames
+  most = live-at-most (x .state .frames) (x .state .cmf) (x .state .omf) (fits .cmf-below) (fits .omf-below)
+
+  some-live : 0 < n
+  some-live = live-some (x .state .frames) (x .state .cmf) (x .state .omf) (fits .cmf-below) (fits .omf-below)
+
+  abbrev pub page : (index line : ℕ) → ℕ
+  page i l = pageOf (x .state .lines) (x .state .frames) (x .state .omf) (x .memory .table) i l
+
+  -- A version stands in a page of the pool.
+  pub page-known : (i l : ℕ) → i < n → l < x .state .lines → effective (writtenIn x) i l ≡ true → page i l < x .state .pages
+  unfolding pageOf placeAt
+  page-known i l h b e =
+      let block : l / 8 < x .state .lines / 8 = omega (arith, good .lines-by) in
+      q .pages (placeAt (writtenIn x) (frameAt (x .state .frames) (x .state .omf) i) (l / 8))
+      (place-within (writtenIn x) (frameAt (x .state .frames) (x .state .omf) i) (l / 8) (frame-below (x .state .frames) (x .state .omf) (fits .omf-below) i) block)
+      (effective-needed (writtenIn x) i l (fits .omf-below) (omega (arith, most)) block e) .0
+
+  module _ (l : ℕ) (b : l < x .state .lines) where
+    abbrev bits : ℕ → Bool
+    bits i = effective (writtenIn x) i l
+
+    abbrev pub newest : Found
+    newest = newestFrom (writtenIn x) l (n - 1)
+
+    newest-is : newest ≡ greatest n bits
+    unfolding newestFrom
+    newest-is = ap (λ (m : ℕ). greatest m bits) (omega (arith, some-live))
+
+    pub newest-facts : (i : ℕ) → newest ≡ At i → Greatest n bits i
+    newest-facts i e = greatest-found n bits i (sym newest-is ∙ e)
+
+    -- its bytes
+    latest-found : latestIn x l ≡ versionOf (λ i. versionAt x i l) (archiveIn x l) newest
+    unfolding latestIn
+    latest-found =
+        version-same n (λ j. frameIn x j l) (λ j. cond (bits (n - 1 - j)) (some (versionAt x (n - 1 - j) l)) none) (archiveIn x l) (λ j h. frame-at x j l h b)
+        ∙ (version-back n bits (λ i. versionAt x i l) (archiveIn x l) ∙ ap (versionOf (λ i. versionAt x i l) (archiveIn x l)) (sym newest-is))
+
+    spotted : (r : Found) → ((i : ℕ) → r ≡ At i → Greatest n bits i)
+        → contentOf (x .memory .archive) (x .memory .pool) l (spotOf (x .state .lines) (x .state .frames) (x .state .omf) (x .state .pages) (x .memory .table) l r)
+        ≡ versionOf (λ i. versionAt x i l) (archiveIn x l) r
+    unfolding contentOf spotOf versionOf versionAt archiveIn pageOf placeAt
+    spotted (At i) h =
+        let g = h i refl in
+        ap (λ (t : Bool). contentOf (x .memory .archive) (x .memory .pool) l (cond t (Page (page i l)) Archive)) (lt-ltb (page i l) (x .state .pages) (page-known i l (g .below) b (g .passes)))
+    spotted Nothing h = sym (ap (λ (t : Bool). cond t (archiveLine (x .memory .archive) l) zeros) (lt-ltb l (x .state .lines) b))
+
+    pub content-latest : contentOf (x .memory .archive) (x .memory .pool) l (spotOf (x .state .lines) (x .state .frames) (x .state .omf) (x .state .pages) (x .memory .table) l newest)
+        ≡ latestIn x l
+    content-latest = spotted newest newest-facts ∙ sym latest-found
+
+    -- and its frame
+    origin-found : foundIn n (λ j. isWritten (frameIn x j l)) ≡ backOf n newest
+    origin-found =
+        found-same n (λ j. isWritten (frameIn x j l)) (λ j. bits (n - 1 - j)) (λ j h. sym (written-effective x j l h b))
+        ∙ (found-back n bits ∙ ap (backOf n) (sym newest-is))
+
+    numbered : (r : Found) → ((i : ℕ) → r ≡ At i → Greatest n bits i) → numberOf (x .state .frames) (x .state .omf) r ≡ frameNumber (x .state) (backOf n r)
+    unfolding numberOf frameNumber backOf
+    numbered (At i) h =
+        let g = h i refl in
+        ap (frameAt (x .state .frames) (x .state .omf)) (turned n i (g .below))
+      where
+        turned : (n i : ℕ) → i < n → i ≡ n - 1 - (n - 1 - i)
+        turned n i b = omega arith
+    numbered Nothing h = refl
+
+    pub number-newest : numberOf (x .state .frames) (x .state .omf) newest ≡ newestFrame x l
+    unfolding newestFrame
+    number-newest = numbered newest newest-facts ∙ ap (frameNumber (x .state)) (sym origin-found)
+
+    backed : (r : Found) → originOf (backIn n r) ≡ backOf n r
+    unfolding originOf backIn backOf
+    backed (At i) = refl
+    backed Nothing = refl
+
+    -- The version found by the code is the most recent one, with its frame and its origin,
+    pub newest-told : (v : Version) → v ≡ newestOf (writtenIn x) (x .state .pages) n (x .memory .archive) (x .memory .pool) (x .memory .table) l
+        → (v .content ≡ latestIn x l) × (v .frame ≡ newestFrame x l) × (originOf (v .origin) ≡ seenOf store x .origin l)
+    unfolding newestOf seenOf figureSeen figureOf
+    newest-told v e =
+        (ap (λ (w : Version). w .content) e ∙ content-latest, ap (λ (w : Version). w .frame) e ∙ number-newest, ap (λ (w : Version). originOf (w .origin)) e ∙ (backed newest ∙ sym origin-found))
+
+    -- and so is the one that the cache has.
+    pub latest-told : (v : Version) → v ≡ latestOf (x .state .cache) (writtenIn x) (x .state .pages) n (x .memory .archive) (x .memory .pool) (x .memory .table) l
+        → (v .content ≡ latestIn x l) × (v .frame ≡ newestFrame x l)
+        × (originOf (v .origin) ≡ cond (holds (shown (x .state .cache)) l) from-cache (seenOf store x .origin l))
+    unfolding latestOf latestFrom originOf isHit
+    latest-told v e = go (found (x .state .cache) l) refl
+      where
+        go : (r : Entry) → found (x .state .cache) l ≡ r
+            → (v .content ≡ latestIn x l) × (v .frame ≡ newestFrame x l)
+            × (originOf (v .origin) ≡ cond (holds (shown (x .state .cache)) l) from-cache (seenOf store x .origin l))
+        go (Hit h) d =
+            let f = found-at (x .state .cache) l h d in
+            let c = q .coherent h (f .valid) in
+            let is = e ∙ ap (latestFrom (x .state .cache) _) d in
+            (ap (λ (w : Version). w .content) is ∙ (c .0 ∙ ap (latestIn x) (f .line)),
+            ap (λ (w : Version). w .frame) is ∙ (c .1 ∙ ap (newestFrame x) (f .line)),
+            ap (λ (w : Version). originOf (w .origin)) is ∙ sym (ap (λ (t : Bool). cond t from-cache (seenOf store x .origin l)) (sym (hit-shown (x .state .cache) l) ∙ ap isHit d)))
+        go Miss d =
+            let r = newest-told v (e ∙ ap (latestFrom (x .state .cache) _) d) in
+            (r .0, r .1, r .2 ∙ sym (ap (λ (t : Bool). cond t from-cache (seenOf store x .origin l)) (sym (hit-shown (x .state .cache) l) ∙ ap isHit d)))
+
+    -- It is a line of bytes.
+    pub latest-line : IsLine (latestIn x l)
+    unfolding latestIn
+    latest-line = version-line n (λ j. frameIn x j l) (archiveIn x l) (λ j v e. q .version-line j l v e) (q .archive-line l)

@@ -1,0 +1,162 @@
+-- READ and LINE keep their promise. Assumes nothing.
+use mathlib.Core.Path.{_≡_, refl, sym, _∙_, ap, ap₂, subst}
+use mathlib.Core.Logic.{_≢_}
+use mathlib.Core.Bool.{Bool, cond}
+use mathlib.Core.List.{List, []}
+use Prim.Native.Nat.{ℕ, _-_, _<_}
+use native.Mathlib.Omega.{arith}
+use borrow.Author.Tests.{ltb-true}
+use lib.Dec.{ltb}
+use lib.ListN.{length}
+use Rattle.rules.specs.Line.{Line, lineOf, offsetOf, valueAt}
+use Rattle.rules.specs.Call.{Origin, Answer, refused}
+use Rattle.rules.specs.Call.Origin.{from-cache, from-frame, from-archive}
+use Rattle.rules.specs.Call.Answer.{reading, lending}
+use Rattle.rules.specs.Call.Call.{READ, LINE}
+use Rattle.rules.specs.Seen.{accepted}
+use Rattle.rules.specs.Refusal.{placeRefusal, lineRefusal, stateRefusal, refusal, noPage}
+use Rattle.rules.specs.Figure2.{figureStep, cmfStep, omfStep, figureSeen, foundIn, isWritten, mrv}
+use Rattle.rules.specs.Figure3.{WellCache, holds, use-line, cacheStep}
+use Rattle.rules.specs.Promise.{Promise, Followed, figureOf, seenOf, factsOf, target}
+use Rattle.rules.proofs.Chain.{Placed, place-passed, passed}
+use Rattle.rules.proofs.Width.{line-below}
+use Rattle.rules.proofs.WellCache.{use-well}
+use Rattle.written.specs.Bits.{newestFrom}
+use Rattle.pages.specs.Table.{placeAt}
+use Rattle.cache.specs.declared.Cache.{Cache}
+use Rattle.cache.specs.Steps.{placed}
+use Rattle.cache.specs.Shown.{shown}
+use Rattle.cache.proofs.Uses.{placed-sized, placed-shown, placed-all}
+use Rattle.versions.specs.declared.Version.{Version}
+use Rattle.versions.specs.Newest.{spotOf, contentOf, originOf, latestOf}
+use Rattle.storage.specs.declared.State.{State}
+use Rattle.storage.specs.Storage.{Storage, settingsIn, lengthsIn, liveIn, writtenIn, frameIn, archiveIn, versionAt, latestIn, frameNumber, newestFrame, Recent, WellStore, store}
+use Rattle.storage.specs.Steps.{stateWith, usedState, readState}
+use Rattle.storage.specs.Admit.{admitted}
+use Rattle.storage.proofs.Chains.{admitted-rest}
+use Rattle.storage.proofs.Looking.{admittedIn, turned-down, let-through}
+use Rattle.storage.proofs.Reading.{newest, content-latest, latest-told, latest-line}
+
+-- A use of a line by a READ: the cache has its most recent version, and all else is as it was.
+module _ (x : Storage) (q : WellStore x) (l : ℕ) (b : l < x .state .lines) where
+  abbrev pub used : Storage
+  used = record { state = readState x l; memory = x .memory }
+
+  long : length (latestIn x l) ≡ 16
+  long = latest-line x q l b .long
+
+  used-cache : shown (used .state .cache) ≡ use-line l (shown (x .state .cache))
+  unfolding readState usedState
+  used-cache = placed-shown (x .state .cache) (q .sized) l (newestFrame x l) (latestIn x l) long
+
+  used-number : (o : Origin) → frameNumber (used .state) o ≡ frameNumber (x .state) o
+  unfolding frameNumber readState usedState
+  used-number from-cache = refl
+  used-number (from-frame j) = refl
+  used-number from-archive = refl
+
+  used-newest : (m : ℕ) → newestFrame used m ≡ newestFrame x m
+  unfolding newestFrame readState usedState frameIn versionAt placeAt
+  used-newest m = used-number (foundIn (liveIn (x .state)) (λ j. isWritten (frameIn x j m)))
+
+  used-well : WellStore used
+  unfolding readState usedState frameIn archiveIn versionAt latestIn placeAt
+  used-well =
+      record {
+        fits = q .fits;
+        long = q .long;
+        bits = q .bits;
+        pages = q .pages;
+        sized = placed-sized (x .state .cache) (q .sized) l (newestFrame x l) (latestIn x l) long;
+        version-line = q .version-line;
+        archive-line = q .archive-line;
+        entries = subst (WellCache (settingsIn (x .state))) (sym used-cache) (use-well (settingsIn (x .state)) l (shown (x .state .cache)) b (q .entries));
+        coherent = placed-all (x .state .cache) (q .sized) l (newestFrame x l) (latestIn x l) long (Recent x) (Recent used) (settingsIn (x .state)) (q .entries) (q .coherent) (refl, sym (used-newest l)) (λ m g c d r. (r .0, r .1 ∙ sym (used-newest m)));
+      }
+
+module _ (x : Storage) (w a : ℕ) where
+  abbrev l : ℕ
+  l = lineOf a
+
+  abbrev due : Answer
+  due = reading 0 (valueAt w (offsetOf a) (latestIn x l)) (cond (holds (shown (x .state .cache)) l) from-cache (seenOf store x .origin l))
+
+  read-followed : (q : WellStore x) (b : l < x .state .lines) → Followed store (READ w a) x due (used x q l b)
+  unfolding accepted cmfStep omfStep figureStep cacheStep readState usedState frameIn archiveIn versionAt placeAt figureOf seenOf figureSeen mrv latestIn
+  read-followed q b =
+      record {
+        answer = refl;
+        well = used-well x q l b;
+        settings = refl;
+        cmf = refl;
+        omf = refl;
+        figure = refl;
+        cache = used-cache x q l b;
+      }
+
+  module _ (r : ℕ) (told : r ≡ admittedIn x (placeRefusal (settingsIn (x .state)) w a 0)) where
+    pub read-refused : r ≢ 0 → Promise store (READ w a) x (reading r 0 from-archive) x
+    unfolding refusal stateRefusal factsOf admitted refused noPage
+    read-refused z = turned-down x (READ w a) r told z
+
+    module _ (z : r ≡ 0) where
+      pub place-known : Placed (settingsIn (x .state)) w a
+      place-known = place-passed (settingsIn (x .state)) w a 0 (admitted-rest (settingsIn (x .state)) (x .state .cmf) (x .state .omf) (lengthsIn (x .memory)) r _ told z) .0
+
+      -- in the form in which the code has the version, the value, the cache and the state
+      module _ (live : ℕ) (live-is : live ≡ liveIn (x .state)) (v : Version)
+          (found : v ≡ latestOf (x .state .cache) (writtenIn x) (x .state .pages) live (x .memory .archive) (x .memory .pool) (x .memory .table) l)
+          (value : ℕ) (valued : value ≡ valueAt w (offsetOf a) (v .content)) (held : Cache) (cached : held ≡ placed (x .state .cache) l (v .frame) (v .content))
+          (s : State) (is : s ≡ stateWith (x .state) (x .state .cmf) (x .state .omf) (x .state .tag) (x .state .hint) held) where
+        module _ (q : WellStore x) where
+          b : l < x .state .lines
+          b = line-below place-known
+
+          abbrev facts : (v .content ≡ latestIn x l) × (v .frame ≡ newestFrame x l) × (originOf (v .origin) ≡ cond (holds (shown (x .state .cache)) l) from-cache (seenOf store x .origin l))
+          facts =
+              latest-told x q l b v
+              (found ∙ ap (λ (m : ℕ). latestOf (x .state .cache) (writtenIn x) (x .state .pages) m (x .memory .archive) (x .memory .pool) (x .memory .table) l) live-is)
+
+          pub read-state : s ≡ readState x l
+          unfolding readState usedState
+          read-state =
+              is ∙ ap (stateWith (x .state) (x .state .cmf) (x .state .omf) (x .state .tag) (x .state .hint)) (cached ∙ ap₂ (placed (x .state .cache) l) (facts .1) (facts .0))
+
+          read-answer : reading 0 value (originOf (v .origin)) ≡ due
+          read-answer = ap₂ (reading 0) (valued ∙ ap (valueAt w (offsetOf a)) (facts .0)) (facts .2)
+
+          read-step : Followed store (READ w a) x (reading 0 value (originOf (v .origin))) (record { state = s; memory = x .memory })
+          read-step =
+              subst (λ (o : Answer). Followed store (READ w a) x o (record { state = s; memory = x .memory })) (sym read-answer)
+              (subst (λ (t : State). Followed store (READ w a) x due (record { state = t; memory = x .memory })) (sym read-state) (read-followed q b))
+
+        pub read-told : Promise store (READ w a) x (reading 0 value (originOf (v .origin))) (record { state = s; memory = x .memory })
+        unfolding refusal stateRefusal factsOf admitted noPage target
+        read-told = let-through x (READ w a) r told z (_, _, refl) read-step refl refl
+
+-- LINE lends the bytes where they stand.
+module _ (x : Storage) (l r : ℕ) (told : r ≡ admittedIn x (lineRefusal (settingsIn (x .state)) l)) where
+  pub line-refused : r ≢ 0 → Promise store (LINE l) x (lending []) x
+  unfolding refusal stateRefusal factsOf admitted refused noPage
+  line-refused z = turned-down x (LINE l) r told z
+
+  pub line-told : r ≡ 0 → (bytes : List ℕ)
+      → bytes ≡ contentOf (x .memory .archive) (x .memory .pool) l (spotOf (x .state .lines) (x .state .frames) (x .state .omf) (x .state .pages) (x .memory .table) l (newestFrom (writtenIn x) l (liveIn (x .state) - 1)))
+      → Promise store (LINE l) x (lending bytes) x
+  unfolding refusal stateRefusal factsOf admitted noPage accepted figureStep cmfStep omfStep cacheStep seenOf figureSeen figureOf mrv latestIn lineRefusal
+  line-told z bytes e = let-through x (LINE l) r told z (_, refl) (record { kept = refl; followed = followed }) refl refl
+    where
+      below : l < x .state .lines
+      below = ltb-true l (x .state .lines) (passed (ltb l (x .state .lines)) 9 0 (omega arith) (admitted-rest (settingsIn (x .state)) (x .state .cmf) (x .state .omf) (lengthsIn (x .memory)) r _ told z) .0)
+
+      followed : WellStore x → Followed store (LINE l) x (lending bytes) x
+      followed q =
+          record {
+            answer = ap lending (e ∙ content-latest x q l below);
+            well = q;
+            settings = refl;
+            cmf = refl;
+            omf = refl;
+            figure = refl;
+            cache = refl;
+          }

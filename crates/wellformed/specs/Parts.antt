@@ -1,0 +1,52 @@
+-- The clauses of well-formedness that a function decides by itself, and what is asked of the numbers and the lent lengths.
+use Prim.Native.Nat.{ℕ, _+_, _*_, _/_, _%_, _≤_, _<_}
+use mathlib.Core.Path.{_≡_}
+use mathlib.Core.Bool.{true, false}
+use mathlib.Core.List.{List}
+use lib.ListN.{length, getD}
+use Rattle.rules.specs.Line.{Line}
+use Rattle.frames.specs.Digits.{bit}
+use Rattle.cache.specs.declared.Cache.{Cache}
+use Rattle.cache.specs.Entries.{lineOf}
+use Rattle.pages.specs.Table.{AsksTable}
+use Rattle.versions.specs.declared.Version.{Version}
+use Rattle.versions.specs.Newest.{newestOf}
+use Rattle.written.specs.Bits.{Written, Lent, tagOf, effective}
+
+-- Every group with a bit set has a tag that is in use.
+abbrev pub TagsKnown : (count tag : ℕ) → List ℕ → Type 0
+TagsKnown count tag groups =
+    (at q : ℕ) → at < count → q < 16 → bit (getD groups at 0) q ≡ true → tagOf (getD groups at 0) ≤ tag
+
+-- Only live frames have effective bits.
+abbrev pub OnlyLive : Written → (live : ℕ) → Type 0
+OnlyLive w live = (k l : ℕ) → live ≤ k → k < w .frames → l < w .lines → effective w k l ≡ false
+
+-- A set of the cache whose valid entries are in it and below L, and not both with one line.
+pub record SetWell (lines : ℕ) (c : Cache) (set : ℕ) : Type 0 where
+  pub first : getD (c .valid) (2 * set) 0 ≡ 1 → (lineOf c (2 * set) % 16 ≡ set) × (lineOf c (2 * set) < lines)
+  pub second : getD (c .valid) (2 * set + 1) 0 ≡ 1 → (lineOf c (2 * set + 1) % 16 ≡ set) × (lineOf c (2 * set + 1) < lines)
+  pub once : getD (c .valid) (2 * set) 0 ≡ 1 → getD (c .valid) (2 * set + 1) 0 ≡ 1 → lineOf c (2 * set) ≡ lineOf c (2 * set + 1) → ⊥
+
+-- A line below L with the frame and the bytes of its most recent version in memory.
+abbrev pub RecentIn : Written → (pages live : ℕ) → (archive pool table : List ℕ) → (line frame : ℕ) → Line → Type 0
+RecentIn w pages live archive pool table l frame bytes =
+    (l < w .lines) × (bytes ≡ newestOf w pages live archive pool table l .content) × (frame ≡ newestOf w pages live archive pool table l .frame)
+
+-- Every element is a byte.
+abbrev pub Bytes : List ℕ → Type 0
+Bytes xs = (i : ℕ) → getD xs i 0 < 256
+
+pub record AsksBits (w : Written) (live : ℕ) : Type 0 where
+  pub lent : Lent w
+  pub lines-by : w .lines % 8 ≡ 0
+  pub live-within : live ≤ w .frames
+
+pub record AsksRecent (w : Written) (pages live : ℕ) (archive pool table : List ℕ) : Type 0 where
+  pub asks : AsksTable w table
+  pub frames-few : w .frames ≤ 256
+  pub live-some : 0 < live
+  pub live-within : live ≤ w .frames
+  pub pages-few : pages ≤ 4096
+  pub archive-long : 16 * w .lines ≤ length archive
+  pub pool-long : 128 * pages ≤ length pool

@@ -1,0 +1,349 @@
+// Whether the parts of a store's storage are well-formed: CHECK's tests. Every function is safe on any contents; what the `requires` ask of
+// numbers and lengths is tested by the store, and only our own crates call them.
+use cache::Cache;
+use frames::Found;
+ghost use mathlib.Core.Path.{_≡_};
+ghost use mathlib.Core.Bool.{true};
+ghost use Prim.Native.Nat.{_%_, _≤_, _<_};
+ghost use lib.ListN.{length, getD};
+ghost use Rattle.rules.specs.Sizing.{settingsOf};
+ghost use Rattle.rules.specs.Figure3.{WellCache};
+ghost use Rattle.written.specs.Bits.{writtenOf};
+ghost use Rattle.written.specs.Steps.{Ordered};
+ghost use Rattle.written.specs.Well.{WellBits};
+ghost use Rattle.pages.specs.Table.{AsksTable, Confirmed, neededAt, placesOf};
+ghost use Rattle.cache.specs.Entries.{Sized, All};
+ghost use Rattle.cache.specs.Shown.{shown};
+ghost use Rattle.wellformed.specs.Decision.{Decides};
+ghost use Rattle.wellformed.specs.Parts.{TagsKnown, OnlyLive, SetWell, RecentIn, Bytes, AsksBits, AsksRecent};
+
+// Whether every group with a bit set has a tag up to the current one.
+fn tags_known(groups: &[u32], count: u32, tag: u32) -> bool
+    requires { ⌜ count ≤ length (now groups) ⌝ }
+    ensures { λ r. ⌜ Decides r (TagsKnown count tag (now (groups .entry))) ⌝ }
+{
+    let mut at = 0;
+    while at < count {
+        let group = groups[at as usize];
+        match frames::newest_bit(group, 0, 16) {
+            Found::At(_) => {
+                if tag < group / 65536 % 256 {
+                    return false;
+                }
+            }
+            Found::Nothing => {}
+        }
+        at = at + 1;
+    }
+    true
+}
+
+// Whether no used entry of the history is less deep than a newer one.
+fn is_ordered(history: &[u16], tag: u32) -> bool
+    requires { ⌜ (tag < 256) × (256 ≤ length (now history)) ⌝ }
+    ensures { λ r. ⌜ Decides r (Ordered tag (now (history .entry))) ⌝ }
+{
+    let last = tag as usize;
+    let mut t = 0;
+    while t < last {
+        if history[t + 1] < history[t] {
+            return false;
+        }
+        t = t + 1;
+    }
+    true
+}
+
+// Whether only live frames have effective bits.
+fn only_live(groups: &[u32], history: &[u16], lines: u32, frames: u32, omf: u32, live: u32) -> bool
+    requires { ⌜ AsksBits (writtenOf lines frames omf (now groups) (now history)) live ⌝ }
+    ensures { λ r. ⌜ Decides r (OnlyLive (writtenOf lines frames omf (now (groups .entry)) (now (history .entry))) live) ⌝ }
+{
+    let blocks = lines / 8;
+    let mut block = 0;
+    while block < blocks {
+        if written::block_has(groups, history, lines, frames, omf, block, live, frames) {
+            return false;
+        }
+        block = block + 1;
+    }
+    true
+}
+
+// Whether the written bits and the history are well-formed.
+pub fn bits(
+    groups: &[u32],
+    history: &[u16],
+    lines: u32,
+    frames: u32,
+    omf: u32,
+    tag: u32,
+    live: u32,
+) -> bool
+    requires { ⌜ AsksBits (writtenOf lines frames omf (now groups) (now history)) live ⌝ }
+    ensures { λ r. ⌜ Decides r (WellBits (writtenOf lines frames omf (now (groups .entry)) (now (history .entry))) tag live) ⌝ }
+{
+    if 255 < tag {
+        return false;
+    }
+    if history[tag as usize] != 65535 {
+        return false;
+    }
+    if !is_ordered(history, tag) {
+        return false;
+    }
+    if !tags_known(groups, frames / 16 * lines, tag) {
+        return false;
+    }
+    only_live(groups, history, lines, frames, omf, live)
+}
+
+// Whether the place, if it is needed, has its page, and the page knows it.
+fn is_confirmed(
+    groups: &[u32],
+    history: &[u16],
+    table: &[u16],
+    owners: &[u32],
+    lines: u32,
+    frames: u32,
+    omf: u32,
+    pages: u32,
+    place: u32,
+) -> bool
+    requires { ⌜ (AsksTable (writtenOf lines frames omf (now groups) (now history)) (now table)) × (pages ≤ length (now owners)) × (place < placesOf (writtenOf lines frames omf (now groups) (now history))) ⌝ }
+    ensures { λ r. ⌜ Decides r (neededAt (writtenOf lines frames omf (now (groups .entry)) (now (history .entry))) place ≡ true → (getD (now (table .entry)) place 0 < pages) × (getD (now (owners .entry)) (getD (now (table .entry)) place 0) 0 ≡ place)) ⌝ }
+{
+    let blocks = lines / 8;
+    if !written::needed(
+        groups,
+        history,
+        lines,
+        frames,
+        omf,
+        place / blocks,
+        place % blocks,
+    ) {
+        return true;
+    }
+    let page = frames::wide(table[place as usize]);
+    if pages <= page {
+        return false;
+    }
+    if owners[page as usize] != place {
+        return false;
+    }
+    true
+}
+
+// Whether every needed place is confirmed.
+pub fn confirmed(
+    groups: &[u32],
+    history: &[u16],
+    table: &[u16],
+    owners: &[u32],
+    lines: u32,
+    frames: u32,
+    omf: u32,
+    pages: u32,
+) -> bool
+    requires { ⌜ (AsksTable (writtenOf lines frames omf (now groups) (now history)) (now table)) × (pages ≤ length (now owners)) ⌝ }
+    ensures { λ r. ⌜ Decides r (Confirmed (neededAt (writtenOf lines frames omf (now (groups .entry)) (now (history .entry)))) (placesOf (writtenOf lines frames omf (now (groups .entry)) (now (history .entry)))) pages (λ y. getD (now (table .entry)) y 0) (λ p. getD (now (owners .entry)) p 0)) ⌝ }
+{
+    let places = frames * (lines / 8);
+    let mut place = 0;
+    while place < places {
+        if !is_confirmed(
+            groups,
+            history,
+            table,
+            owners,
+            lines,
+            frames,
+            omf,
+            pages,
+            place,
+        ) {
+            return false;
+        }
+        place = place + 1;
+    }
+    true
+}
+
+// Whether an entry, if it is valid, holds a line of its set and below L.
+fn is_home(valid: u8, line: u32, set: u32, lines: u32) -> bool
+    ensures { λ r. ⌜ Decides r (valid ≡ 1 → (line % 16 ≡ set) × (line < lines)) ⌝ }
+{
+    if valid != 1 {
+        return true;
+    }
+    if line % 16 != set {
+        return false;
+    }
+    if lines <= line {
+        return false;
+    }
+    true
+}
+
+// Whether the two entries of a set are well-formed: each in its own set and below L, and not both with one line.
+fn is_set_well(cache: Cache, lines: u32, set: u32) -> bool
+    requires { ⌜ set < 16 ⌝ }
+    ensures { λ r. ⌜ Decides r (SetWell lines cache set) ⌝ }
+{
+    let first = 2 * (set as usize);
+    let second = first + 1;
+    if !is_home(cache.valid[first], cache.lines[first], set, lines) {
+        return false;
+    }
+    if !is_home(cache.valid[second], cache.lines[second], set, lines) {
+        return false;
+    }
+    if cache.valid[first] != 1 {
+        return true;
+    }
+    if cache.valid[second] != 1 {
+        return true;
+    }
+    if cache.lines[first] == cache.lines[second] {
+        return false;
+    }
+    true
+}
+
+// Whether each valid entry of the cache is in its own set, once, and below L.
+pub fn entries(cache: Cache, lines: u32) -> bool
+    ensures { λ r. ⌜ Decides r (WellCache (settingsOf lines 0 0) (shown cache)) ⌝ }
+{
+    let mut set = 0;
+    while set < 16 {
+        if !is_set_well(cache, lines, set) {
+            return false;
+        }
+        set = set + 1;
+    }
+    true
+}
+
+// Whether two lines have the same bytes.
+fn is_same(a: [u8; 16], b: [u8; 16]) -> bool
+    ensures { λ r. ⌜ Decides r (a ≡ b) ⌝ }
+{
+    let mut i = 0;
+    while i < 16 {
+        if a[i] != b[i] {
+            return false;
+        }
+        i = i + 1;
+    }
+    true
+}
+
+// Whether an entry's line, frame and bytes are those of the line's most recent version in memory.
+fn is_recent(
+    archive: &[u8],
+    pool: &[u8],
+    groups: &[u32],
+    table: &[u16],
+    history: &[u16],
+    lines: u32,
+    frames: u32,
+    omf: u32,
+    pages: u32,
+    live: u32,
+    line: u32,
+    frame: u16,
+    content: [u8; 16],
+) -> bool
+    requires { ⌜ AsksRecent (writtenOf lines frames omf (now groups) (now history)) pages live (now archive) (now pool) (now table) ⌝ }
+    ensures { λ r. ⌜ Decides r (RecentIn (writtenOf lines frames omf (now (groups .entry)) (now (history .entry))) pages live (now (archive .entry)) (now (pool .entry)) (now (table .entry)) line frame content) ⌝ }
+{
+    if lines <= line {
+        return false;
+    }
+    let newest = versions::newest(
+        archive,
+        pool,
+        groups,
+        table,
+        history,
+        lines,
+        frames,
+        omf,
+        pages,
+        live,
+        line,
+    );
+    if newest.frame != frame {
+        return false;
+    }
+    let bytes = newest.content;
+    is_same(content, bytes)
+}
+
+// Whether every valid entry of the cache has its line's most recent frame and bytes.
+pub fn coherent(
+    cache: Cache,
+    archive: &[u8],
+    pool: &[u8],
+    groups: &[u32],
+    table: &[u16],
+    history: &[u16],
+    lines: u32,
+    frames: u32,
+    omf: u32,
+    pages: u32,
+    live: u32,
+) -> bool
+    requires { ⌜ AsksRecent (writtenOf lines frames omf (now groups) (now history)) pages live (now archive) (now pool) (now table) ⌝ }
+    ensures { λ r. ⌜ Decides r (All (RecentIn (writtenOf lines frames omf (now (groups .entry)) (now (history .entry))) pages live (now (archive .entry)) (now (pool .entry)) (now (table .entry))) cache) ⌝ }
+    ensures sized { λ _. ⌜ Sized cache ⌝ }
+{
+    let held = cache.lines;
+    let numbers = cache.frames;
+    let valid = cache.valid;
+    let mut e = 0;
+    while e < 32 {
+        let at = e as usize;
+        if valid[at] == 1 {
+            let content = cache::line_at(cache, e);
+            if !is_recent(
+                archive,
+                pool,
+                groups,
+                table,
+                history,
+                lines,
+                frames,
+                omf,
+                pages,
+                live,
+                held[at],
+                numbers[at],
+                content,
+            ) {
+                return false;
+            }
+        }
+        e = e + 1;
+    }
+    true
+}
+
+fn wide(b: u8) -> u32
+    ensures { λ r. ⌜ (r ≡ b) × (b < 256) ⌝ }
+{
+    b as u32
+}
+
+// Reads every byte of a lent piece: each is one, as its type says, and the loop is what tells the prover.
+pub fn bytes(list: &[u8])
+    ensures { λ _. ⌜ Bytes (now (list .entry)) ⌝ }
+{
+    let count = list.len();
+    let mut i = 0;
+    while i < count {
+        wide(list[i]);
+        i = i + 1;
+    }
+}

@@ -2,17 +2,22 @@
 use mathlib.Core.Path.{_≡_, refl, sym, _∙_, ap, ap₂, subst}
 use mathlib.Core.Logic.{_≢_, _⊎_, inl, inr}
 use mathlib.Core.Bool.{Bool, true, false, not, _&&_, _||_, and-false, false≢true}
+use mathlib.Core.List.{List}
 use Prim.Native.Nat.{ℕ, _+_, _-_, _*_, _%_, _^_, _≤_, _<_}
 use native.Mathlib.Omega.{arith}
-use borrow.Author.Tests.{not-true, not-false, eqb-true, eqb-false, lt-ltb, le-ltb, le-leb, lt-leb, eq-eqb, ne-eqb}
+use borrow.Author.Tests.{ltb-true, not-true, not-false, eqb-true, eqb-false, lt-ltb, le-ltb, le-leb, lt-leb, eq-eqb, ne-eqb}
 use lib.Dec.{ltb, leb, eqb}
-use Rattle.rules.specs.Settings.{Settings, Pieces, enough}
+use Rattle.rules.specs.Settings.{Settings, Pieces, elements, enough}
 use Rattle.rules.specs.Line.{lineOf, offsetOf}
-use Rattle.rules.specs.Refusal.{unless, liveFrames, stateFits, isWidth, lineRefusal, markedRefusal, placeRefusal, writeRefusal}
+use Rattle.rules.specs.Refusal.{unless, liveFrames, stateFits, isWidth, askedRefusal, lineRefusal, markedRefusal, placeRefusal, writeRefusal}
 use Rattle.rules.proofs.Chain.{Placed, fails, passes, passed, place-passed, marked-passed}
 use Rattle.rules.proofs.Width.{widths, in-line, line-below}
 use Rattle.rules.proofs.Circle.{live-some, live-at-most}
+use Rattle.frames.specs.declared.Found.{Found}
+use Rattle.written.specs.Bits.{writtenOf, newestFrom}
 use Rattle.pages.specs.Lines.{AsksBytes}
+use Rattle.versions.specs.Newest.{AsksSpot}
+use Rattle.versions.proofs.Finding.{newest-below}
 use Rattle.storage.specs.Admit.{admitted}
 use Rattle.storage.proofs.Admitting.{Room, admitted-room}
 
@@ -77,6 +82,9 @@ module _ (w : ℕ) where
 -- The lengths measured are the lent pieces'.
 pub measured : (s : Settings) (cmf omf a rest : ℕ) (p n : Pieces) → p ≡ n → a ≡ admitted s cmf omf p rest → a ≡ admitted s cmf omf n rest
 measured s cmf omf a rest p n e told = told ∙ ap (λ (m : Pieces). admitted s cmf omf m rest) e
+
+pub asked-measured : (s : Settings) (a : ℕ) (p n : Pieces) → p ≡ n → a ≡ askedRefusal p s → a ≡ askedRefusal n s
+asked-measured s a p n e told = told ∙ ap (λ (m : Pieces). askedRefusal m s) e
 
 module _ (s : Settings) (cmf omf : ℕ) (p : Pieces) where
   admitted-links : Links (admitted s cmf omf p)
@@ -239,3 +247,40 @@ pub place-room : (s : Settings) (cmf omf : ℕ) (p : Pieces) (r w a : ℕ) → r
 place-room s cmf omf p r w a told z =
     let d = place-passed s w a 0 (admitted-rest s cmf omf p r _ told z) .0 in
     record { room = admitted-room s cmf omf p r _ told z; line-below = line-below d; bytes = place-bytes s w a d }
+
+-- What LINE has once it is admitted.
+pub record LineRoom (s : Settings) (cmf omf : ℕ) (p : Pieces) (l : ℕ) : Type 0 where
+  pub room : Room s cmf omf p
+  pub line-below : l < s .lines
+  pub live-some : 0 < liveFrames (s .frames) cmf omf
+  pub live-most : liveFrames (s .frames) cmf omf ≤ s .frames
+  pub archive-long : 16 * s .lines ≤ p .archive
+  pub pool-long : 128 * s .pages ≤ p .pool
+
+pub line-room : (s : Settings) (cmf omf : ℕ) (p : Pieces) (r l : ℕ) → r ≡ admitted s cmf omf p (lineRefusal s l) → r ≡ 0 → LineRoom s cmf omf p l
+unfolding lineRefusal elements
+line-room s cmf omf p r l told z =
+    let d = admitted-room s cmf omf p r _ told z in
+    record {
+      room = d;
+      line-below = ltb-true l (s .lines) (passed (ltb l (s .lines)) 9 0 (omega arith) (admitted-rest s cmf omf p r _ told z) .0);
+      live-some = live-some (s .frames) cmf omf (d .fits .cmf-below) (d .fits .omf-below);
+      live-most = live-at-most (s .frames) cmf omf (d .fits .cmf-below) (d .fits .omf-below);
+      archive-long = d .long .archive;
+      pool-long = d .long .pool;
+    }
+
+pub line-spot : (s : Settings) (cmf omf : ℕ) (p : Pieces) (l : ℕ) → LineRoom s cmf omf p l → (live : ℕ) → live ≡ liveFrames (s .frames) cmf omf
+    → (groups history : List ℕ) (found : Found) → found ≡ newestFrom (writtenOf (s .lines) (s .frames) omf groups history) l (live - 1)
+    → AsksSpot (s .lines) (s .frames) omf l found (p .table)
+unfolding elements
+line-spot s cmf omf p l g live e groups history found told =
+    record {
+      lines-by = g .room .good .lines-by;
+      lines-few = g .room .good .lines-to;
+      frames-few = omega (arith, g .room .good .frames-to);
+      omf-below = g .room .fits .omf-below;
+      line-below = g .line-below;
+      index-below = λ i d. omega (arith, g .live-some, g .live-most, newest-below (writtenOf (s .lines) (s .frames) omf groups history) l (live - 1) i (sym told ∙ d));
+      table-long = g .room .long .table;
+    }

@@ -9,4 +9,5 @@ pub mod Numbers
 pub mod Rolling
 pub mod Reading
 pub mod Using
+pub mod Starting
 pub mod Marking

@@ -3,11 +3,9 @@ use mathlib.Core.Path.{_≡_, refl, sym, _∙_, ap, ap₂, subst}
 use mathlib.Core.Logic.{_≢_}
 use mathlib.Core.Bool.{Bool, cond}
 use mathlib.Core.List.{List, []}
-use Prim.Native.Nat.{ℕ, _-_, _<_}
+use Prim.Native.Nat.{ℕ, _+_, _-_, _*_, _%_, _≤_, _<_}
 use native.Mathlib.Omega.{arith}
-use borrow.Author.Tests.{ltb-true}
-use lib.Dec.{ltb}
-use lib.ListN.{length}
+use lib.ListN.{length, take, drop}
 use Rattle.rules.specs.Line.{Line, lineOf, offsetOf, valueAt}
 use Rattle.rules.specs.Call.{Origin, Answer, refused}
 use Rattle.rules.specs.Call.Origin.{from-cache, from-frame, from-archive}
@@ -18,22 +16,27 @@ use Rattle.rules.specs.Refusal.{placeRefusal, lineRefusal, stateRefusal, refusa
 use Rattle.rules.specs.Figure2.{figureStep, cmfStep, omfStep, figureSeen, foundIn, isWritten, mrv}
 use Rattle.rules.specs.Figure3.{WellCache, holds, use-line, cacheStep}
 use Rattle.rules.specs.Promise.{Promise, Followed, figureOf, seenOf, factsOf, target}
-use Rattle.rules.proofs.Chain.{Placed, place-passed, passed}
+use Rattle.rules.proofs.Chain.{Placed, place-passed}
 use Rattle.rules.proofs.Width.{line-below}
 use Rattle.rules.proofs.WellCache.{use-well}
+use Rattle.frames.specs.Lines.{lineAt}
+use Rattle.frames.specs.declared.Found.{Found}
 use Rattle.written.specs.Bits.{newestFrom}
 use Rattle.pages.specs.Table.{placeAt}
 use Rattle.cache.specs.declared.Cache.{Cache}
 use Rattle.cache.specs.Steps.{placed}
 use Rattle.cache.specs.Shown.{shown}
 use Rattle.cache.proofs.Uses.{placed-sized, placed-shown, placed-all}
+use Rattle.versions.specs.declared.Spot.{Spot}
+use Rattle.versions.specs.declared.Spot.the-variants.{Page, Archive}
 use Rattle.versions.specs.declared.Version.{Version}
 use Rattle.versions.specs.Newest.{spotOf, contentOf, originOf, latestOf}
+use Rattle.versions.proofs.Finding.{spot-below}
 use Rattle.storage.specs.declared.State.{State}
 use Rattle.storage.specs.Storage.{Storage, settingsIn, lengthsIn, liveIn, writtenIn, frameIn, archiveIn, versionAt, latestIn, frameNumber, newestFrame, Recent, WellStore, store}
 use Rattle.storage.specs.Steps.{stateWith, usedState, readState}
 use Rattle.storage.specs.Admit.{admitted}
-use Rattle.storage.proofs.Chains.{admitted-rest}
+use Rattle.storage.proofs.Chains.{admitted-rest, line-room}
 use Rattle.storage.proofs.Looking.{admittedIn, turned-down, let-through}
 use Rattle.storage.proofs.Reading.{newest, content-latest, latest-told, latest-line}
 
@@ -140,23 +143,42 @@ module _ (x : Storage) (l r : ℕ) (told : r ≡ admittedIn x (lineRefusal (sett
   unfolding refusal stateRefusal factsOf admitted refused noPage
   line-refused z = turned-down x (LINE l) r told z
 
-  pub line-told : r ≡ 0 → (bytes : List ℕ)
-      → bytes ≡ contentOf (x .memory .archive) (x .memory .pool) l (spotOf (x .state .lines) (x .state .frames) (x .state .omf) (x .state .pages) (x .memory .table) l (newestFrom (writtenIn x) l (liveIn (x .state) - 1)))
-      → Promise store (LINE l) x (lending bytes) x
-  unfolding refusal stateRefusal factsOf admitted noPage accepted figureStep cmfStep omfStep cacheStep seenOf figureSeen figureOf mrv latestIn lineRefusal
-  line-told z bytes e = let-through x (LINE l) r told z (_, refl) (record { kept = refl; followed = followed }) refl refl
-    where
-      below : l < x .state .lines
-      below = ltb-true l (x .state .lines) (passed (ltb l (x .state .lines)) 9 0 (omega arith) (admitted-rest (settingsIn (x .state)) (x .state .cmf) (x .state .omf) (lengthsIn (x .memory)) r _ told z) .0)
+  module _ (z : r ≡ 0) (live : ℕ) (live-is : live ≡ liveIn (x .state)) (found : Found) (found-is : found ≡ newestFrom (writtenIn x) l (live - 1))
+      (spot : Spot) (spot-is : spot ≡ spotOf (x .state .lines) (x .state .frames) (x .state .omf) (x .state .pages) (x .memory .table) l found) where
+    followed : (bytes : List ℕ) → bytes ≡ contentOf (x .memory .archive) (x .memory .pool) l spot → WellStore x → Followed store (LINE l) x (lending bytes) x
+    unfolding accepted figureStep cmfStep omfStep cacheStep seenOf figureSeen figureOf mrv latestIn
+    followed bytes e q =
+        record {
+          answer = ap lending (e ∙ (ap (contentOf (x .memory .archive) (x .memory .pool) l) (spot-is ∙ ap (spotOf (x .state .lines) (x .state .frames) (x .state .omf) (x .state .pages) (x .memory .table) l) (found-is ∙ ap (λ (m : ℕ). newestFrom (writtenIn x) l (m - 1)) live-is)) ∙ content-latest x q l (line-room (settingsIn (x .state)) (x .state .cmf) (x .state .omf) (lengthsIn (x .memory)) r l told z .line-below)));
+          well = q;
+          settings = refl;
+          cmf = refl;
+          omf = refl;
+          figure = refl;
+          cache = refl;
+        }
 
-      followed : WellStore x → Followed store (LINE l) x (lending bytes) x
-      followed q =
-          record {
-            answer = ap lending (e ∙ content-latest x q l below);
-            well = q;
-            settings = refl;
-            cmf = refl;
-            omf = refl;
-            figure = refl;
-            cache = refl;
-          }
+    told-so : (bytes : List ℕ) → bytes ≡ contentOf (x .memory .archive) (x .memory .pool) l spot → Promise store (LINE l) x (lending bytes) x
+    unfolding refusal stateRefusal factsOf admitted noPage
+    told-so bytes e = let-through x (LINE l) r told z (_, refl) (record { kept = refl; followed = followed bytes e }) refl refl
+
+    -- a part of the pool or of the archive, by its two ends
+    whole : (at : ℕ) (xs : List ℕ) → take (at + 16 - at) (drop at xs) ≡ lineAt xs at
+    unfolding lineAt
+    whole at xs =
+        let n : at + 16 - at ≡ 16 = omega arith in
+        ap (λ (k : ℕ). take k (drop at xs)) n
+
+    pub line-in-page : (p : ℕ) → spot ≡ Page p
+        → Promise store (LINE l) x (lending (take (128 * p + 16 * (l % 8) + 16 - (128 * p + 16 * (l % 8))) (drop (128 * p + 16 * (l % 8)) (x .memory .pool)))) x
+    unfolding contentOf
+    line-in-page p e = told-so _ (whole (128 * p + 16 * (l % 8)) (x .memory .pool) ∙ sym (ap (contentOf (x .memory .archive) (x .memory .pool) l) e))
+
+    pub line-in-archive : spot ≡ Archive → Promise store (LINE l) x (lending (take (16 * l + 16 - 16 * l) (drop (16 * l) (x .memory .archive)))) x
+    unfolding contentOf
+    line-in-archive e = told-so _ (whole (16 * l) (x .memory .archive) ∙ sym (ap (contentOf (x .memory .archive) (x .memory .pool) l) e))
+
+-- The ends of the part.
+pub page-end : (lines frames omf pages : ℕ) (table : List ℕ) (l : ℕ) (found : Found) (spot : Spot) (p n : ℕ) → spot ≡ spotOf lines frames omf pages table l found
+    → spot ≡ Page p → 128 * pages ≤ n → 128 * p + 16 * (l % 8) + 16 ≤ n
+page-end lines frames omf pages table l found spot p n e d long = omega (arith, spot-below lines frames omf pages table l found p (sym e ∙ d))

@@ -2,8 +2,10 @@
 use Prim.Native.Nat.{ℕ, _+_, _-_, _%_}
 use mathlib.Core.Path.{_≡_}
 use mathlib.Core.List.{List}
+use lib.ListN.{set}
 use Rattle.written.specs.Bits.{writtenOf}
-use Rattle.written.specs.Steps.{RolledBack}
+use Rattle.written.specs.Steps.{RolledBack, blanked}
+use Rattle.versions.specs.Steps.{zeroed}
 use Rattle.cache.specs.declared.Cache.{Cache}
 use Rattle.cache.specs.Steps.{emptied, placed, forgotten, collected}
 use Rattle.storage.specs.declared.State.{State}
@@ -13,6 +15,14 @@ use Rattle.storage.specs.Storage.{Storage, liveIn, latestIn, newestFrame
 unfoldable pub freshState : (lines frames pages : ℕ) → State
 freshState lines frames pages =
     record { lines = lines; frames = frames; pages = pages; cmf = 0; omf = 0; tag = 0; hint = 0; cache = emptied }
+
+-- What it leaves in all: "archive all zero .., no written bits, all pages free". Pool, table and owners stay as they are: with no written
+-- bit nothing in them counts.
+pub record ResetTo (lines frames pages : ℕ) (archive groups history : List ℕ) (t : State) (archive-after groups-after history-after : List ℕ) : Type 0 where
+  pub state : t ≡ freshState lines frames pages
+  pub archive-is : archive-after ≡ zeroed lines archive
+  pub groups-are : groups-after ≡ blanked lines frames groups
+  pub history-is : history-after ≡ set history 0 65535
 
 -- The state with other registers, tag, hint and cache; the settings stay.
 abbrev pub stateWith : State → (cmf omf tag hint : ℕ) → Cache → State

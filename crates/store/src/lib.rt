@@ -2,14 +2,16 @@
 use cache::Cache;
 pub use storage::State;
 pub use versions::Origin;
+use versions::Spot;
 ghost use mathlib.Core.Path.{_≡_};
 ghost use Prim.Native.Nat.{_/_};
-ghost use Rattle.rules.specs.Call.Answer.{outcome, reading, counting};
-ghost use Rattle.rules.specs.Call.Call.{READ, LINE-REFUSAL, MARK, ROLLBACK, COUNTS};
+ghost use Rattle.rules.specs.Sizing.{settingsOf};
+ghost use Rattle.rules.specs.Call.Answer.{outcome, reading, lending, counting};
+ghost use Rattle.rules.specs.Call.Call.{RESET, READ, LINE, LINE-REFUSAL, MARK, ROLLBACK, COUNTS};
 ghost use Rattle.rules.specs.Promise.{Promise};
 ghost use Rattle.storage.specs.Storage.{storageOf, store};
 ghost use Rattle.versions.specs.Newest.{originOf};
-ghost use Rattle.storage.specs.Steps.{stateWith, markedState, RolledTo, ReadTo};
+ghost use Rattle.storage.specs.Steps.{freshState, stateWith, markedState, ResetTo, RolledTo, ReadTo};
 
 // LINE's companion: the refusal of `line` on the same arguments, or 0.
 pub fn line_refusal(
@@ -50,6 +52,22 @@ fn state_with(state: State, cmf: u32, omf: u32, tag: u32, hint: u32, cache: Cach
         tag,
         hint,
         cache,
+    }
+}
+
+// The state of an empty store.
+fn fresh(lines: u32, frames: u32, pages: u32) -> State
+    ensures { λ r. ⌜ r ≡ freshState lines frames pages ⌝ }
+{
+    State {
+        lines,
+        frames,
+        pages,
+        cmf: 0,
+        omf: 0,
+        tag: 0,
+        hint: 0,
+        cache: cache::empty(),
     }
 }
 
@@ -232,5 +250,89 @@ pub fn read(
         refusal: 0,
         value: pages::lines::value_of(content, width, address % 16),
         origin,
+    }
+}
+
+// LINE: lends the part of the pool or of the archive that holds the line's most recent version; refused, an empty part of the archive.
+pub fn line<'a>(
+    state: State,
+    archive: &'a [u8],
+    pool: &'a [u8],
+    groups: &[u32],
+    table: &[u16],
+    owners: &[u32],
+    history: &[u16],
+    line: u32,
+) -> &'a [u8]
+    ensures { λ r. ⌜ Promise store (LINE line)
+        (storageOf state (now (archive .entry)) (now (pool .entry)) (now (groups .entry)) (now (table .entry)) (now (owners .entry)) (now (history .entry)))
+        (lending (now r))
+        (storageOf state (now (archive .entry)) (now (pool .entry)) (now (groups .entry)) (now (table .entry)) (now (owners .entry)) (now (history .entry))) ⌝ }
+{
+    let lengths = storage::measure(archive, pool, groups, table, owners, history);
+    if storage::admit_line(state, lengths, line) != 0 {
+        return &archive[0..0];
+    }
+    let live = frames::live(state.cmf, state.omf, state.frames);
+    let found = written::search(
+        groups,
+        history,
+        state.lines,
+        state.frames,
+        state.omf,
+        line,
+        live - 1,
+    );
+    match versions::locate(
+        table,
+        state.lines,
+        state.frames,
+        state.omf,
+        state.pages,
+        line,
+        found,
+    ) {
+        Spot::Page(page) => {
+            let from = 128 * (page as usize) + 16 * ((line % 8) as usize);
+            let end = from + 16;
+            &pool[from..end]
+        }
+        Spot::Archive => {
+            let from = 16 * (line as usize);
+            let end = from + 16;
+            &archive[from..end]
+        }
+    }
+}
+
+// RESET: an empty store with these settings, whatever the state and the lent memory held.
+pub fn reset(
+    state: State,
+    archive: &mut [u8],
+    pool: &[u8],
+    groups: &mut [u32],
+    table: &[u16],
+    owners: &[u32],
+    history: &mut [u16],
+    lines: u32,
+    frames: u32,
+    pages: u32,
+) -> Outcome
+    ensures { λ r. ⌜ (Promise store (RESET (settingsOf lines frames pages))
+        (storageOf state (now (archive .entry)) (now (pool .entry)) (now (groups .entry)) (now (table .entry)) (now (owners .entry)) (now (history .entry)))
+        (outcome (r .refusal))
+        (storageOf (r .state) (now (archive .exit)) (now (pool .entry)) (now (groups .exit)) (now (table .entry)) (now (owners .entry)) (now (history .exit))))
+        × (r .refusal ≡ 0 → ResetTo lines frames pages (now (archive .entry)) (now (groups .entry)) (now (history .entry)) (r .state) (now (archive .exit)) (now (groups .exit)) (now (history .exit))) ⌝ }
+{
+    let lengths = storage::measure(archive, pool, groups, table, owners, history);
+    let refusal = storage::asked_refusal(lines, frames, pages, lengths);
+    if refusal != 0 {
+        return Outcome { state, refusal };
+    }
+    versions::zero(archive, lines);
+    written::reset(groups, history, lines, frames);
+    Outcome {
+        state: fresh(lines, frames, pages),
+        refusal: 0,
     }
 }

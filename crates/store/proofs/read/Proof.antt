@@ -35,9 +35,10 @@ value-of-requires : tie.Need-value-of-requires
 value-of-requires c κs = place-room _ _ _ _ _ _ _ (measured _ _ _ _ _ _ _ (c .before .before .before .before .before .before .before .before .measure .ensures) (c .before .before .before .before .before .before .before .admit-place .ensures)) (c .before .before .before .before .before .before .if1 .left) .bytes
 
 returns-2 : tie.Need-returns-2
-returns-2 c =
-    (read-told _ _ _ _ (measured _ _ _ _ _ _ _ (c .before .before .before .before .before .before .before .before .before .measure .ensures) (c .before .before .before .before .before .before .before .before .admit-place .ensures)) (c .before .before .before .before .before .before .before .if1 .left) _ (c .before .before .before .before .before .live .ensures) _ (c .before .before .before .before .latest .ensures) _ (c .value-of .ensures) _ (c .before .before .place .ensures .0) _ (c .before .state-with .ensures),
-    λ z. read-state _ _ _ _ (measured _ _ _ _ _ _ _ (c .before .before .before .before .before .before .before .before .before .measure .ensures) (c .before .before .before .before .before .before .before .before .admit-place .ensures)) (c .before .before .before .before .before .before .before .if1 .left) _ (c .before .before .before .before .before .live .ensures) _ (c .before .before .before .before .latest .ensures) _ (c .value-of .ensures) _ (c .before .before .place .ensures .0) _ (c .before .state-with .ensures))
+returns-2 c = (
+  read-told _ _ _ _ (measured _ _ _ _ _ _ _ (c .before .before .before .before .before .before .before .before .before .measure .ensures) (c .before .before .before .before .before .before .before .before .admit-place .ensures)) (c .before .before .before .before .before .before .before .if1 .left) _ (c .before .before .before .before .before .live .ensures) _ (c .before .before .before .before .latest .ensures) _ (c .value-of .ensures) _ (c .before .before .place .ensures .0) _ (c .before .state-with .ensures),
+  λ z. read-state _ _ _ _ (measured _ _ _ _ _ _ _ (c .before .before .before .before .before .before .before .before .before .measure .ensures) (c .before .before .before .before .before .before .before .before .admit-place .ensures)) (c .before .before .before .before .before .before .before .if1 .left) _ (c .before .before .before .before .before .live .ensures) _ (c .before .before .before .before .latest .ensures) _ (c .value-of .ensures) _ (c .before .before .place .ensures .0) _ (c .before .state-with .ensures),
+)
 
 pub read-spec : {M : Type 1} → statement M
 read-spec = tie.close (tie.spec measure-requires admit-place-requires returns live-requires latest-requires place-requires state-with-requires value-of-requires returns-2)

@@ -1,0 +1,225 @@
+-- RESET keeps its promise, on any state and any lent contents. Assumes nothing.
+use mathlib.Core.Path.{_≡_, refl, sym, _∙_, ap, ap₂, subst, fun-ext}
+use mathlib.Core.Logic.{_≢_}
+use mathlib.Core.Bool.{Bool, true, false, cond, _&&_}
+use mathlib.Core.Option.{Option, none, some}
+use mathlib.Core.List.{List}
+use Prim.Native.Nat.{ℕ, _+_, _*_, _/_, _%_, _-_, _≤_, _<_, min}
+use native.Mathlib.Decide.{decLt}
+use native.Mathlib.Omega.{arith}
+use borrow.Author.Tests.{lt-ltb, le-ltb}
+use lib.Dec.{ltb}
+use lib.ListN.{length, getD, set, drop, take, length-set, length-take, length-drop, replicate, getD-replicate}
+use lib.Seq.{ext-getD, getD-take, getD-drop}
+use Rattle.rules.specs.Settings.{Settings, Pieces, within, elements, enough}
+use Rattle.rules.specs.Sizing.{settingsOf}
+use Rattle.rules.specs.Line.{Line, zeros}
+use Rattle.rules.specs.Call.{refused}
+use Rattle.rules.specs.Call.Answer.{outcome}
+use Rattle.rules.specs.Call.Call.{RESET}
+use Rattle.rules.specs.Refusal.{unless, askedRefusal, refusal, noPage}
+use Rattle.rules.specs.Figure2.{Figure, initial}
+use Rattle.rules.specs.Figure3.{WellCache, emptyCache}
+use Rattle.rules.specs.Promise.{Promise, Started, WellFigure, figureOf, factsOf, target}
+use Rattle.rules.proofs.Settings.{Good, within-good, good-within}
+use Rattle.rules.proofs.Chain.{passed}
+use Rattle.rules.proofs.Circle.{live-start}
+use Rattle.rules.proofs.Promise.{facts-fit}
+use Rattle.rules.proofs.WellSteps.{initial-well}
+use Rattle.rules.proofs.WellCache.{empty-well}
+use Rattle.frames.specs.Lists.{rewrite}
+use Rattle.frames.specs.Lines.{lineAt}
+use Rattle.frames.proofs.Lists.{drop-set, rewrite-drop, rewrite-length, rewrite-at}
+use Rattle.written.specs.Bits.{effective}
+use Rattle.written.specs.Steps.{blanked, AsksReset}
+use Rattle.written.specs.Well.{WellBits}
+use Rattle.written.proofs.Keeping.{started-effective, started-well}
+use Rattle.pages.specs.Lines.{archiveLine}
+use Rattle.pages.proofs.Keeping.{started-confirmed}
+use Rattle.cache.specs.declared.Cache.{Cache}
+use Rattle.cache.specs.Steps.{emptied}
+use Rattle.cache.proofs.Uses.{empty-shown, empty-all, empty-sized}
+use Rattle.versions.specs.Steps.{zeroed}
+use Rattle.storage.specs.Storage.{Storage, storageOf, memoryOf, settingsIn, lengthsIn, liveIn, writtenIn, indexBack, versionAt, frameIn, archiveIn, Recent, WellStore, store}
+use Rattle.storage.specs.declared.State.{State}
+use Rattle.storage.specs.Steps.{freshState, ResetTo}
+use Rattle.storage.specs.Admit.{covers}
+use Rattle.storage.proofs.Admitting.{Long, covers-long, long-covers}
+use Rattle.storage.proofs.Figures.{frame-at, frame-live, frame-past, step-versions, step-archive}
+use Rattle.storage.proofs.Looking.{turned-down, let-through}
+
+-- The state in the form in which the code builds it.
+pub fresh-told : (lines frames pages : ℕ) (held : Cache) → held ≡ emptied
+    → _≡_ {A = State} (record { lines = lines; frames = frames; pages = pages; cmf = 0; omf = 0; tag = 0; hint = 0; cache = held }) (freshState lines frames pages)
+unfolding freshState
+fresh-told lines frames pages held e =
+    ap (λ (c : Cache). record { lines = lines; frames = frames; pages = pages; cmf = 0; omf = 0; tag = 0; hint = 0; cache = c }) e
+
+-- A line of the archive that is all zero.
+zero-line : (lines : ℕ) (archive : List ℕ) (l : ℕ) → l < lines → 16 * lines ≤ length archive → archiveLine (zeroed lines archive) l ≡ zeros
+unfolding zeroed zeros lineAt
+zero-line lines archive l b long =
+    ext-getD 0 (take 16 (drop (16 * l) cleared)) (replicate 16 0) whole
+    (λ i h.
+    let below : i < 16 = subst (λ (n : ℕ). i < n) whole h in
+    getD-take 16 (drop (16 * l) cleared) i 0 below
+    ∙ (getD-drop (16 * l) cleared i 0 ∙ (rewrite-at _ archive (16 * lines) (16 * l + i) (omega arith) (omega arith) ∙ sym (getD-replicate 16 i 0 0 below))))
+  where
+    cleared : List ℕ
+    cleared = rewrite (16 * lines) (λ _ b. 0) archive
+
+    room : (n : ℕ) → 16 * lines ≤ n → min 16 (n - 16 * l) ≡ 16
+    room n h = omega arith
+
+    whole : length (take 16 (drop (16 * l) cleared)) ≡ 16
+    whole =
+        length-take 16 (drop (16 * l) cleared)
+        ∙ (ap (min 16) (length-drop (16 * l) cleared ∙ ap (λ (n : ℕ). n - 16 * l) (rewrite-length _ archive (16 * lines))) ∙ room (length archive) long)
+
+module _ (asked : Settings) (m : Storage) (good : Good asked) (long : Long (elements asked) (lengthsIn (m .memory))) where
+  abbrev lines : ℕ
+  lines = asked .lines
+
+  abbrev pub begun : Storage
+  begun =
+      storageOf (freshState lines (asked .frames) (asked .pages)) (zeroed lines (m .memory .archive)) (m .memory .pool) (blanked lines (asked .frames) (m .memory .groups)) (m .memory .table) (m .memory .owners)
+      (set (m .memory .history) 0 65535)
+
+  live : liveIn (begun .state) ≡ 1
+  unfolding freshState
+  live = live-start (asked .frames) (omega (arith, good .frames-from))
+
+  -- no line has its written bit
+  some-lines : 0 < lines
+  some-lines = omega (arith, good .lines-from)
+
+  some-frames : 0 < asked .frames
+  some-frames = omega (arith, good .frames-from)
+
+  few-frames : asked .frames ≤ 4096
+  few-frames = omega (arith, good .frames-to)
+
+  archive-long : 16 * lines ≤ length (m .memory .archive)
+  unfolding elements
+  archive-long = long .archive
+
+  long-enough : enough asked (lengthsIn (m .memory)) ≡ true
+  unfolding enough covers
+  long-enough = long-covers (elements asked) (lengthsIn (m .memory)) long
+
+  groups-long : asked .frames / 16 * lines ≤ length (m .memory .groups)
+  unfolding elements
+  groups-long = long .groups
+
+  history-long : 256 ≤ length (m .memory .history)
+  unfolding elements
+  history-long = long .history
+
+  begun-frame : (j l : ℕ) → frameIn begun j l ≡ none
+  unfolding freshState
+  begun-frame j l = go (decLt j (liveIn (begun .state))) (decLt l lines)
+    where
+      go : Dec (j < liveIn (begun .state)) → Dec (l < lines) → frameIn begun j l ≡ none
+      go (yes h) (yes b) =
+          frame-at begun j l h b
+          ∙ ap (λ (t : Bool). cond t (some (versionAt begun (indexBack (begun .state) j) l)) none)
+          (started-effective lines (asked .frames) (m .memory .groups) (m .memory .history) some-lines (good .lines-to) (good .frames-by) some-frames few-frames groups-long history-long (indexBack (begun .state) j) l b)
+      go (yes h) (no b) = frame-past begun j l (omega arith)
+      go (no h) b = frame-live begun j l (omega arith)
+
+  -- and the archive is all zero
+  begun-archive : (l : ℕ) → archiveIn begun l ≡ zeros
+  unfolding archiveIn freshState
+  begun-archive l = go (decLt l lines)
+    where
+      go : Dec (l < lines) → cond (ltb l lines) (archiveLine (zeroed lines (m .memory .archive)) l) zeros ≡ zeros
+      go (yes b) = ap (λ (t : Bool). cond t (archiveLine (zeroed lines (m .memory .archive)) l) zeros) (lt-ltb l lines b) ∙ zero-line lines (m .memory .archive) l b archive-long
+      go (no b) = ap (λ (t : Bool). cond t (archiveLine (zeroed lines (m .memory .archive)) l) zeros) (le-ltb l lines (omega arith))
+
+  begun-figure : figureOf store begun ≡ initial
+  unfolding figureOf initial freshState
+  begun-figure =
+      ap₂ (λ (n : ℕ) (p : (ℕ → ℕ → Option Line) × (ℕ → Line)). record { live = n; frame = p .0; archive = p .1 }) live
+      (ap₂ (λ (f : ℕ → ℕ → Option Line) (g : ℕ → Line). (f, g)) (fun-ext (λ j. fun-ext (λ l. begun-frame j l))) (fun-ext (λ l. begun-archive l)))
+
+  lengths : lengthsIn (begun .memory) ≡ lengthsIn (m .memory)
+  unfolding zeroed blanked
+  lengths =
+      ap₂ (λ (a : ℕ) (p : ℕ × ℕ). record { archive = a; pool = length (m .memory .pool); groups = p .0; table = length (m .memory .table); owners = length (m .memory .owners); history = p .1 })
+      (rewrite-length _ (m .memory .archive) (16 * lines))
+      (ap₂ (λ (g h : ℕ). (g, h)) (rewrite-length _ (m .memory .groups) (asked .frames / 16 * lines)) (length-set (m .memory .history) 0 65535))
+
+  begun-well : WellStore begun
+  unfolding freshState
+  begun-well =
+      record {
+        fits = facts-fit asked 0 0 (record { limits = good-within asked good; cmf-below = some-frames; omf-below = some-frames });
+        long = subst (λ (p : Pieces). enough asked p ≡ true) (sym lengths) long-enough;
+        bits = subst (WellBits (writtenIn begun) 0) (sym live) (started-well lines (asked .frames) (m .memory .groups) (m .memory .history) some-lines (good .lines-to) (good .frames-by) some-frames few-frames groups-long history-long);
+        pages = started-confirmed lines (asked .frames) (m .memory .groups) (m .memory .history) some-lines (good .lines-to) (good .frames-by) some-frames few-frames groups-long history-long (asked .pages) (λ y. getD (m .memory .table) y 0) (λ p. getD (m .memory .owners) p 0);
+        sized = empty-sized;
+        version-line = step-versions begun asked initial begun-figure (initial-well asked good);
+        archive-line = step-archive begun asked initial begun-figure (initial-well asked good);
+        entries = subst (WellCache asked) (sym empty-shown) (empty-well asked);
+        coherent = empty-all (Recent begun);
+      }
+
+  begun-started : Started store asked (outcome 0) begun
+  unfolding freshState
+  begun-started =
+      record { answer = refl; well = begun-well; settings = refl; cmf = refl; omf = refl; figure = begun-figure; cache = empty-shown }
+
+-- What the tests of a RESET leave, and what the layers ask.
+module _ (lines frames pages a : ℕ) (p : Pieces) (told : a ≡ askedRefusal p (settingsOf lines frames pages)) (z : a ≡ 0) where
+  tests : (within (settingsOf lines frames pages) ≡ true) × (enough (settingsOf lines frames pages) p ≡ true)
+  unfolding askedRefusal
+  tests =
+      let t = passed (within (settingsOf lines frames pages)) 4 (unless (enough (settingsOf lines frames pages) p) 6 0) (omega arith) (sym told ∙ z) in
+      (t .0, passed (enough (settingsOf lines frames pages) p) 6 0 (omega arith) (t .1) .0)
+
+  pub reset-good : Good (settingsOf lines frames pages)
+  reset-good = within-good (settingsOf lines frames pages) (tests .0)
+
+  pub reset-long : Long (elements (settingsOf lines frames pages)) p
+  unfolding covers enough
+  reset-long = covers-long (elements (settingsOf lines frames pages)) p (tests .1)
+
+  pub zero-asks : (lines ≤ 4096) × (16 * lines ≤ p .archive)
+  unfolding elements
+  zero-asks = (reset-good .lines-to, reset-long .archive)
+
+  pub reset-asks : AsksReset lines frames (p .groups) (p .history)
+  unfolding elements
+  reset-asks =
+      record { lines-few = reset-good .lines-to; frames-few = omega (arith, reset-good .frames-to); groups-enough = reset-long .groups; history-some = omega (arith, reset-long .history) }
+
+-- The promise: refused, and accepted, in the form in which the code has what is left.
+module _ (x : Storage) (lines frames pages a : ℕ) (told : a ≡ askedRefusal (lengthsIn (x .memory)) (settingsOf lines frames pages)) where
+  abbrev asked : Settings
+  asked = settingsOf lines frames pages
+
+  pub reset-refused : a ≢ 0 → Promise store (RESET asked) x (outcome a) x
+  unfolding refusal factsOf refused noPage
+  reset-refused z = turned-down x (RESET asked) a told z
+
+  module _ (z : a ≡ 0) where
+    abbrev good-asked : Good asked
+    good-asked = reset-good lines frames pages a (lengthsIn (x .memory)) told z
+
+    abbrev long-asked : Long (elements asked) (lengthsIn (x .memory))
+    long-asked = reset-long lines frames pages a (lengthsIn (x .memory)) told z
+
+    promised : Promise store (RESET asked) x (outcome 0) (begun asked x good-asked long-asked)
+    unfolding refusal factsOf noPage target elements zeroed blanked
+    promised =
+        let-through x (RESET asked) a told z refl (begun-started asked x good-asked long-asked) (lengths asked x good-asked long-asked)
+        (ap₂ (λ (a : List ℕ) (p : List ℕ × List ℕ). memoryOf a (drop (128 * pages) (x .memory .pool)) (p .0) (drop (frames * (lines / 8)) (x .memory .table)) (drop pages (x .memory .owners)) (p .1))
+        (rewrite-drop _ (x .memory .archive) (16 * lines) (16 * lines) (omega arith))
+        (ap₂ (λ (g h : List ℕ). (g, h)) (rewrite-drop _ (x .memory .groups) (frames / 16 * lines) (frames / 16 * lines) (omega arith)) (drop-set (x .memory .history) 0 256 65535 (omega arith))))
+
+    pub reset-begins : (archive groups history : List ℕ) (s : State) → archive ≡ zeroed lines (x .memory .archive) → groups ≡ blanked lines frames (x .memory .groups)
+        → history ≡ set (x .memory .history) 0 65535 → s ≡ freshState lines frames pages
+        → Promise store (RESET asked) x (outcome 0) (storageOf s archive (x .memory .pool) groups (x .memory .table) (x .memory .owners) history)
+        × ResetTo lines frames pages (x .memory .archive) (x .memory .groups) (x .memory .history) s archive groups history
+    reset-begins archive groups history s ea eg eh es =
+        (rw ea (rw eg (rw eh (rw es promised))), record { state = es; archive-is = ea; groups-are = eg; history-is = eh })

@@ -1,0 +1,65 @@
+-- `store::reset` meets its contract. Assumes nothing.
+use borrow.Author.Needs.{needs}
+use Rattle.storage.proofs.Chains.{asked-measured}
+use Rattle.storage.proofs.Starting.{reset-refused, zero-asks, reset-asks, reset-begins}
+use Rattle.store.proofs.reset.Statement.{statement}
+use Rattle.store.proofs.reset.Tie as tie
+
+measure-requires : tie.Need-measure-requires
+measure-requires c κs = search needs
+
+asked-refusal-requires : tie.Need-asked-refusal-requires
+asked-refusal-requires c κs = search needs
+
+same-length : tie.Need-same-length
+same-length c = search needs
+
+same-length-2 : tie.Need-same-length-2
+same-length-2 c = search needs
+
+same-length-3 : tie.Need-same-length-3
+same-length-3 c = search needs
+
+returns : tie.Need-returns
+returns c = (reset-refused _ _ _ _ _ (asked-measured _ _ _ _ (c .before .before .measure .ensures) (c .before .asked-refusal .ensures)) (c .if1 .taken), λ z. absurd (c .if1 .taken z))
+
+zero-requires : tie.Need-zero-requires
+zero-requires c κs = zero-asks _ _ _ _ _ (asked-measured _ _ _ _ (c .before .before .before .measure .ensures) (c .before .before .asked-refusal .ensures)) (c .before .if1 .left)
+
+reset-requires : tie.Need-reset-requires
+reset-requires c κs = reset-asks _ _ _ _ _ (asked-measured _ _ _ _ (c .before .before .before .before .before .before .before .before .measure .ensures) (c .before .before .before .before .before .before .before .asked-refusal .ensures)) (c .before .before .before .before .before .before .if1 .left)
+
+fresh-requires : tie.Need-fresh-requires
+fresh-requires c κs = search needs
+
+same-length-4 : tie.Need-same-length-4
+same-length-4 c = search needs
+
+same-length-5 : tie.Need-same-length-5
+same-length-5 c = search needs
+
+same-length-6 : tie.Need-same-length-6
+same-length-6 c = search needs
+
+returns-2 : tie.Need-returns-2
+returns-2 c =
+    let p = reset-begins _ _ _ _ _ (asked-measured _ _ _ _ (c .before .before .before .before .before .before .before .before .before .before .before .before .before .before .measure .ensures) (c .before .before .before .before .before .before .before .before .before .before .before .before .before .asked-refusal .ensures)) (c .before .before .before .before .before .before .before .before .before .before .before .before .if1 .left) _ _ _ _ (c .before .before .before .before .before .before .before .before .before .before .zero .ensures) (c .before .before .before .before .before .reset .ensures .0) (c .before .before .before .before .before .reset .ensures .1) (c .fresh .ensures) in
+    (p .0, λ z. p .1)
+
+pub reset-spec : {M : Type 1} → statement M
+reset-spec =
+    tie.close
+    (tie.spec
+    measure-requires
+    asked-refusal-requires
+    same-length
+    same-length-2
+    same-length-3
+    returns
+    zero-requires
+    reset-requires
+    fresh-requires
+    same-length-4
+    same-length-5
+    same-length-6
+    returns-2)

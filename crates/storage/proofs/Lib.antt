@@ -10,4 +10,6 @@ pub mod Rolling
 pub mod Reading
 pub mod Using
 pub mod Starting
+pub mod Choosing
+pub mod Writing
 pub mod Marking

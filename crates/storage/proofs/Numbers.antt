@@ -5,9 +5,15 @@ use Prim.Native.Nat.{ℕ, _≤_, _<_}
 use native.Mathlib.Omega.{arith}
 use borrow.Author.Tests.{lt-ltb, le-ltb, ne-eqb}
 use lib.Dec.{ltb, eqb}
+use Rattle.rules.specs.Call.{Origin}
+use Rattle.rules.specs.Call.Origin.{from-cache, from-frame, from-archive}
 use Rattle.frames.specs.Circle.{frameAt, indexOf}
 use Rattle.frames.proofs.Circle.{index-frame, frame-below}
+use Rattle.cache.specs.declared.Cache.{Cache}
 use Rattle.cache.specs.Steps.{archive, isBelow, isDropped}
+use Rattle.storage.specs.declared.State.{State}
+use Rattle.storage.specs.Storage.{frameNumber}
+use Rattle.storage.specs.Steps.{usedState}
 
 module _ (frames omf : ℕ) (few : frames ≤ 256) (h : omf < frames) (m : ℕ) where
   -- a frame is told by its index, and the archive's number lies off the circle
@@ -24,3 +30,10 @@ module _ (frames omf : ℕ) (few : frames ≤ 256) (h : omf < frames) (m : ℕ) 
   unfolding isDropped
   dropped-frame i b =
       ap₂ (λ (s t : Bool). not s && not t) (ne-eqb (frameAt frames omf i) archive (λ e. omega (arith, frame-below frames omf h i))) (below-frame i b)
+
+-- A use of the cache leaves the frames' numbers.
+pub used-number : (s : State) (hint : ℕ) (c : Cache) (o : Origin) → frameNumber (usedState s hint c) o ≡ frameNumber s o
+unfolding frameNumber usedState
+used-number s hint c from-cache = refl
+used-number s hint c (from-frame j) = refl
+used-number s hint c from-archive = refl

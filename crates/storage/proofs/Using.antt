@@ -38,6 +38,7 @@ use Rattle.storage.specs.Steps.{stateWith, usedState, readState}
 use Rattle.storage.specs.Admit.{admitted}
 use Rattle.storage.proofs.Chains.{admitted-rest, line-room}
 use Rattle.storage.proofs.Looking.{admittedIn, turned-down, let-through}
+use Rattle.storage.proofs.Numbers.{used-number}
 use Rattle.storage.proofs.Reading.{newest, content-latest, latest-told, latest-line}
 
 -- A use of a line by a READ: the cache has its most recent version, and all else is as it was.
@@ -52,15 +53,9 @@ module _ (x : Storage) (q : WellStore x) (l : ℕ) (b : l < x .state .lines) whe
   unfolding readState usedState
   used-cache = placed-shown (x .state .cache) (q .sized) l (newestFrame x l) (latestIn x l) long
 
-  used-number : (o : Origin) → frameNumber (used .state) o ≡ frameNumber (x .state) o
-  unfolding frameNumber readState usedState
-  used-number from-cache = refl
-  used-number (from-frame j) = refl
-  used-number from-archive = refl
-
   used-newest : (m : ℕ) → newestFrame used m ≡ newestFrame x m
   unfolding newestFrame readState usedState frameIn versionAt placeAt
-  used-newest m = used-number (foundIn (liveIn (x .state)) (λ j. isWritten (frameIn x j m)))
+  used-newest m = used-number (x .state) (x .state .hint) (placed (x .state .cache) l (newestFrame x l) (latestIn x l)) (foundIn (liveIn (x .state)) (λ j. isWritten (frameIn x j m)))
 
   used-well : WellStore used
   unfolding readState usedState frameIn archiveIn versionAt latestIn placeAt

@@ -1,0 +1,233 @@
+-- The page that a WRITE goes to, on well-formed storage. Assumes nothing.
+use mathlib.Core.Path.{_≡_, refl, sym, _∙_, ap, ap₂, subst}
+use mathlib.Core.Logic.{_≢_, _⊎_, inl, inr}
+use mathlib.Core.Bool.{Bool, true, false, cond, not, _&&_, false≢true}
+use mathlib.Core.List.{List}
+use Prim.Native.Nat.{ℕ, _+_, _-_, _*_, _/_, _%_, _≤_, _<_, min}
+use native.Mathlib.Omega.{arith}
+use borrow.Author.Tests.{lt-ltb, le-leb, lt-leb}
+use lib.Dec.{ltb, leb}
+use lib.ListN.{length, getD, set}
+use lib.Seq.{set-getD}
+use Rattle.rules.specs.Settings.{elements, enough}
+use Rattle.rules.specs.Seen.{needs, count}
+use Rattle.rules.specs.Refusal.{liveFrames}
+use Rattle.rules.specs.Figure2.{isWritten, figureSeen}
+use Rattle.rules.specs.Promise.{figureOf, seenOf}
+use Rattle.rules.proofs.Count.{any-same}
+use Rattle.rules.proofs.Settings.{Good, within-good}
+use Rattle.rules.proofs.Promise.{Fits, fits-facts}
+use Rattle.rules.proofs.Circle.{live-some, live-at-most}
+use Rattle.frames.specs.Circle.{indexOf, frameAt}
+use Rattle.frames.specs.declared.Found.{Found}
+use Rattle.frames.specs.declared.Found.the-variants.{At, Nothing}
+use Rattle.frames.proofs.Circle.{frame-below, index-frame, frame-index}
+use Rattle.written.specs.Bits.{Written, writtenOf, Asks, effective}
+use Rattle.written.specs.Steps.{withWritten}
+use Rattle.pages.specs.Table.{AsksTable, Confirmed, neededAt, placeAt, placesOf, heldAt, given}
+use Rattle.pages.proofs.Holding.{all-held, some-free, held-count}
+use Rattle.pages.proofs.Claiming.{free-of, one-page, given-free, given-none}
+use Rattle.pages.proofs.Keeping.{needed-place, place-within, set-confirmed, claimed-confirmed}
+use Rattle.versions.specs.Newest.{entryPlace}
+use Rattle.versions.specs.Steps.{pageFor}
+use Rattle.storage.specs.Storage.{Storage, settingsIn, lengthsIn, liveIn, writtenIn, frameIn, WellStore, store}
+use Rattle.storage.specs.Admit.{covers}
+use Rattle.storage.proofs.Admitting.{Long, covers-long}
+use Rattle.storage.proofs.Counting.{written-effective, pages-counted}
+
+-- What a search gave.
+payload : Found → ℕ
+payload (At i) = i
+payload Nothing = 0
+
+at-same : {i j : ℕ} → At i ≡ At j → i ≡ j
+unfolding payload
+at-same e = ap payload e
+
+is-at : Found → Bool
+is-at (At i) = true
+is-at Nothing = false
+
+at-some : {i : ℕ} → At i ≡ Nothing → ⊥
+unfolding is-at
+at-some e = false≢true (sym (ap is-at e))
+
+-- Document 01's 13 by the storage: whether the block's page in CMF is needed, and how many pages are.
+module _ (x : Storage) (q : WellStore x) (l : ℕ) (b : l < x .state .lines) where
+  abbrev n : ℕ
+  n = liveIn (x .state)
+
+  abbrev w : Written
+  w = writtenIn x
+
+  fits : Fits (settingsIn (x .state)) (x .state .cmf) (x .state .omf)
+  fits = fits-facts (settingsIn (x .state)) (x .state .cmf) (x .state .omf) (q .fits)
+
+  good : Good (settingsIn (x .state))
+  good = within-good (settingsIn (x .state)) (fits .limits)
+
+  pub most : n ≤ x .state .frames
+  most = live-at-most (x .state .frames) (x .state .cmf) (x .state .omf) (fits .cmf-below) (fits .omf-below)
+
+  pub some-live : 0 < n
+  some-live = live-some (x .state .frames) (x .state .cmf) (x .state .omf) (fits .cmf-below) (fits .omf-below)
+
+  -- CMF is the newest live frame
+  pub cmf-index : indexOf (x .state .frames) (x .state .omf) (x .state .cmf) ≡ n - 1
+  unfolding indexOf liveFrames
+  cmf-index = last ((x .state .cmf + x .state .frames - x .state .omf) % x .state .frames)
+    where
+      last : (m : ℕ) → m ≡ m + 1 - 1
+      last m = omega arith
+
+  pub cmf-frame : frameAt (x .state .frames) (x .state .omf) (n - 1) ≡ x .state .cmf
+  cmf-frame = ap (frameAt (x .state .frames) (x .state .omf)) (sym cmf-index) ∙ frame-index (x .state .frames) (x .state .omf) (fits .omf-below) (x .state .cmf) (fits .cmf-below)
+
+  block : l / 8 < x .state .lines / 8
+  block = omega (arith, good .lines-by)
+
+  abbrev pub place : ℕ
+  place = placeAt w (frameAt (x .state .frames) (x .state .omf) (n - 1)) (l / 8)
+
+  pub place-inside : place < placesOf w
+  place-inside = place-within w (frameAt (x .state .frames) (x .state .omf) (n - 1)) (l / 8) (frame-below (x .state .frames) (x .state .omf) (fits .omf-below) (n - 1)) block
+
+  -- the block is needed in CMF just if its place is
+  pub current-needed : seenOf store x .current (l / 8) ≡ neededAt w place
+  unfolding seenOf figureSeen figureOf needs
+  current-needed =
+      any-same 8 (λ i. isWritten (frameIn x 0 (l / 8 * 8 + i))) (λ i. effective w (n - 1) (l / 8 * 8 + i))
+      (λ i c. sym (written-effective x 0 (l / 8 * 8 + i) some-live (omega (arith, block, good .lines-by))) ∙ ap (λ (k : ℕ). effective w k (l / 8 * 8 + i)) (none-off (n - 1)))
+      ∙ sym (needed-place w (frameAt (x .state .frames) (x .state .omf) (n - 1)) (l / 8) block ∙ ap (λ (k : ℕ). needs (effective w k) (l / 8)) (index-frame (x .state .frames) (x .state .omf) (fits .omf-below) (n - 1) (omega (arith, some-live, most))))
+    where
+      none-off : (m : ℕ) → m - 0 ≡ m
+      none-off m = omega arith
+
+  asked-needed : needs (effective w (indexOf (x .state .frames) (x .state .omf) (x .state .cmf))) (l / 8) ≡ neededAt w place
+  asked-needed =
+      sym (needed-place w (frameAt (x .state .frames) (x .state .omf) (n - 1)) (l / 8) block ∙ ap (λ (f : ℕ). needs (effective w (indexOf (x .state .frames) (x .state .omf) f)) (l / 8)) cmf-frame)
+
+  pub entry-place : entryPlace (x .state .lines) (x .state .cmf) l ≡ place
+  unfolding placeAt
+  entry-place = ap (λ (f : ℕ). f * (x .state .lines / 8) + l / 8) (sym cmf-frame)
+
+  asks : Asks w l (n - 1)
+  asks = record { lent = q .bits .lent; line-below = b; index-below = omega (arith, some-live, most) }
+
+  abbrev pub after-bit : Written
+  after-bit = writtenOf (x .state .lines) (x .state .frames) (x .state .omf) (withWritten w (x .state .tag) l (n - 1)) (x .memory .history)
+
+  -- whether 13 is given
+  abbrev none-free : Bool
+  none-free = not (seenOf store x .current (l / 8)) && leb (x .state .pages) (seenOf store x .pages)
+
+  -- The page chosen is one of the pages, the place's own if that is needed, and no other needed place's; with it every needed place is
+  -- confirmed.
+  pub record Chosen (p : ℕ) : Type 0 where
+    pub below : p < x .state .pages
+    pub own : neededAt w place ≡ true → getD (x .memory .table) place 0 ≡ p
+    pub apart : (y : ℕ) → y < placesOf w → neededAt w y ≡ true → y ≢ place → getD (x .memory .table) y 0 ≢ p
+    pub confirmed :
+        Confirmed (neededAt after-bit) (placesOf w) (x .state .pages) (λ y. getD (set (x .memory .table) place p) y 0)
+        (λ r. getD (set (x .memory .owners) p place) r 0)
+    pub free : none-free ≡ false
+    pub fewer : (seenOf store x .current (l / 8) ≡ true) ⊎ (seenOf store x .pages < x .state .pages)
+
+  abbrev held : ℕ → Bool
+  held = heldAt w (x .memory .table) (x .memory .owners)
+
+  -- as many places are needed as Figure 2 needs pages
+  counted : count (placesOf w) (neededAt w) ≡ seenOf store x .pages
+  unfolding heldAt
+  counted =
+      sym (held-count (neededAt w) (x .state .pages) (λ y. getD (x .memory .table) y 0) (λ r. getD (x .memory .owners) r 0) (placesOf w) (q .pages)) ∙ pages-counted x q
+
+  long : Long (elements (settingsIn (x .state))) (lengthsIn (x .memory))
+  unfolding enough covers
+  long = covers-long (elements (settingsIn (x .state))) (lengthsIn (x .memory)) (q .long)
+
+  owners-long : x .state .pages ≤ length (x .memory .owners)
+  unfolding elements
+  owners-long = long .owners
+
+  pub asks-table : AsksTable w (x .memory .table)
+  unfolding elements
+  asks-table = record { lent = q .bits .lent; lines-by = good .lines-by; lines-from = good .lines-from; table-long = long .table }
+
+  chosen-own : neededAt w place ≡ true → Chosen (getD (x .memory .table) place 0)
+  chosen-own e =
+      let c = q .pages place place-inside e in
+      record {
+        below = c .0;
+        own = λ _. refl;
+        apart = λ y h d ne same. ne (one-page (neededAt w) (placesOf w) (x .state .pages) (λ y. getD (x .memory .table) y 0) (λ r. getD (x .memory .owners) r 0) (q .pages) y place h d place-inside e same);
+        confirmed =
+          subst (λ (t : List ℕ). Confirmed (neededAt after-bit) (placesOf w) (x .state .pages) (λ y. getD t y 0) (λ r. getD (set (x .memory .owners) (getD (x .memory .table) place 0) place) r 0)) (sym (set-getD (x .memory .table) place 0))
+          (subst (λ (o : List ℕ). Confirmed (neededAt after-bit) (placesOf w) (x .state .pages) (λ y. getD (x .memory .table) y 0) (λ r. getD o r 0))
+          (sym (ap (set (x .memory .owners) (getD (x .memory .table) place 0)) (sym (c .1)) ∙ set-getD (x .memory .owners) (getD (x .memory .table) place 0) 0))
+          (set-confirmed w (x .state .tag) l (n - 1) asks (q .bits .tag-below) (q .bits .open-tag) (x .state .pages) (λ y. getD (x .memory .table) y 0) (λ r. getD (x .memory .owners) r 0) e (q .pages)));
+        free = ap (λ (t : Bool). not t && leb (x .state .pages) (seenOf store x .pages)) (current-needed ∙ e);
+        fewer = inl (current-needed ∙ e);
+      }
+
+  chosen-free : neededAt w place ≡ false → (p : ℕ) → p < x .state .pages → held p ≡ false → Chosen p
+  unfolding heldAt
+  chosen-free e p small empty =
+      let few : seenOf store x .pages < x .state .pages =
+      subst (λ (m : ℕ). m < x .state .pages) counted
+      (some-free (neededAt w) (x .state .pages) (λ y. getD (x .memory .table) y 0) (λ r. getD (x .memory .owners) r 0) (placesOf w) (q .pages) p small empty)
+      in
+      record {
+        below = small;
+        own = λ d. absurd (false≢true (sym e ∙ d));
+        apart = λ y h d ne. free-of (neededAt w) (placesOf w) (x .state .pages) (λ y. getD (x .memory .table) y 0) (λ r. getD (x .memory .owners) r 0) (q .pages) p empty y h d;
+        confirmed =
+          claimed-confirmed w (x .state .tag) l (n - 1) asks (q .bits .tag-below) (q .bits .open-tag) (x .state .pages) (x .memory .table) (x .memory .owners) p asks-table
+          (omega (arith, owners-long)) small empty (q .pages);
+        free = ap₂ (λ (s t : Bool). not s && t) (current-needed ∙ e) (lt-leb (x .state .pages) (seenOf store x .pages) few);
+        fewer = inr few;
+      }
+
+  abbrev page-choice : (hint : ℕ) → Found
+  page-choice hint = pageFor w (x .state .pages) hint (x .memory .table) (x .memory .owners) (x .state .cmf) l
+
+  -- what is chosen where the place is needed, and where it is not
+  choice-own : (hint : ℕ) → neededAt w place ≡ true → page-choice hint ≡ At (getD (x .memory .table) place 0)
+  unfolding pageFor
+  choice-own hint e =
+      ap (λ (t : Bool). cond t (named (getD (x .memory .table) (entryPlace (x .state .lines) (x .state .cmf) l) 0)) (given (x .state .pages) (min hint (x .state .pages)) held)) (asked-needed ∙ e)
+      ∙ (ap (λ (y : ℕ). named (getD (x .memory .table) y 0)) entry-place
+      ∙ ap (λ (t : Bool). cond t (At (getD (x .memory .table) place 0)) Nothing) (lt-ltb (getD (x .memory .table) place 0) (x .state .pages) (q .pages place place-inside e .0)))
+    where
+      named : ℕ → Found
+      named p = cond (ltb p (x .state .pages)) (At p) Nothing
+
+  choice-free : (hint : ℕ) → neededAt w place ≡ false → page-choice hint ≡ given (x .state .pages) (min hint (x .state .pages)) held
+  unfolding pageFor
+  choice-free hint e =
+      ap (λ (t : Bool). cond t (cond (ltb entry (x .state .pages)) (At entry) Nothing) (given (x .state .pages) (min hint (x .state .pages)) held)) (asked-needed ∙ e)
+    where
+      entry : ℕ
+      entry = getD (x .memory .table) (entryPlace (x .state .lines) (x .state .cmf) l) 0
+
+  pub chosen : (hint p : ℕ) → page-choice hint ≡ At p → Chosen p
+  chosen hint p e = go (neededAt w place) refl
+    where
+      go : (t : Bool) → neededAt w place ≡ t → Chosen p
+      go true d = subst Chosen (at-same (sym (choice-own hint d) ∙ e)) (chosen-own d)
+      go false d =
+          let f = given-free (x .state .pages) (min hint (x .state .pages)) held (omega arith) p (sym (choice-free hint d) ∙ e) in
+          chosen-free d p (f .0) (f .1)
+
+  pub none-chosen : (hint : ℕ) → page-choice hint ≡ Nothing → none-free ≡ true
+  unfolding heldAt
+  none-chosen hint e = go (neededAt w place) refl
+    where
+      go : (t : Bool) → neededAt w place ≡ t → none-free ≡ true
+      go true d = absurd (at-some (sym (choice-own hint d) ∙ e))
+      go false d =
+          let all = given-none (x .state .pages) (min hint (x .state .pages)) held (omega arith) (sym (choice-free hint d) ∙ e) in
+          let full : seenOf store x .pages ≡ x .state .pages =
+          sym counted ∙ all-held (neededAt w) (x .state .pages) (λ y. getD (x .memory .table) y 0) (λ r. getD (x .memory .owners) r 0) (placesOf w) (q .pages) all
+          in
+          ap₂ (λ (s t : Bool). not s && t) (current-needed ∙ d) (le-leb (x .state .pages) (seenOf store x .pages) (omega (arith, full)))

@@ -1,0 +1,316 @@
+-- WRITE keeps its promise: the step on well-formed storage. Assumes nothing.
+use mathlib.Core.Path.{_≡_, refl, sym, _∙_, ap, ap₂, subst, fun-ext}
+use mathlib.Core.Logic.{_≢_, _⊎_, inl, inr}
+use mathlib.Core.Bool.{Bool, true, false, cond, not, _&&_, _||_, and-true, and-false}
+use mathlib.Core.Option.{Option, none, some, Option·getD}
+use mathlib.Core.List.{List}
+use Prim.Native.Nat.{ℕ, zero, suc, _+_, _-_, _*_, _/_, _%_, _≤_, _<_}
+use native.Mathlib.Decide.{decLt, ℕ-discrete}
+use native.Mathlib.Omega.{arith}
+use borrow.Author.Tests.{lt-ltb, le-ltb, eq-eqb, ne-eqb}
+use lib.Dec.{ltb, eqb}
+use lib.ListN.{length, getD, set, length-set}
+use lib.Seq.{getD-set-same, getD-set-other}
+use Rattle.rules.specs.Settings.{Pieces, elements, enough}
+use Rattle.rules.specs.Line.{Line, IsLine, lineOf, offsetOf, edit}
+use Rattle.rules.specs.Call.{Origin}
+use Rattle.rules.specs.Call.Origin.{from-cache, from-frame, from-archive}
+use Rattle.rules.specs.Call.Answer.{outcome}
+use Rattle.rules.specs.Call.Call.{WRITE}
+use Rattle.rules.specs.Seen.{accepted, further}
+use Rattle.rules.specs.Figure2.{Figure, versionIn, foundIn, isWritten, mrv, written, figureStep, cmfStep, omfStep, figureSeen}
+use Rattle.rules.specs.Figure3.{WellCache, use-line, cacheStep}
+use Rattle.rules.specs.Promise.{Followed, WellFigure, figureOf, seenOf}
+use Rattle.rules.proofs.Chain.{Placed}
+use Rattle.rules.proofs.Width.{widths, in-line, line-below}
+use Rattle.rules.proofs.Line.{length-edit}
+use Rattle.rules.proofs.WellSteps.{write-well}
+use Rattle.rules.proofs.WellCache.{use-well}
+use lib.Arith.{digits-div, digits-mod}
+use Rattle.frames.specs.Circle.{indexOf, frameAt}
+use Rattle.frames.specs.Lines.{pasteLine}
+use Rattle.frames.proofs.Circle.{frame-below, index-frame}
+use Rattle.frames.proofs.Lines.{length-written, read-own}
+use Rattle.written.specs.Bits.{Written, Asks, effective}
+use Rattle.written.specs.Steps.{withWritten}
+use Rattle.written.proofs.Setting.{set-effective}
+use Rattle.written.proofs.Keeping.{set-keeps}
+use Rattle.pages.specs.Lines.{pageLine, withPageLine}
+use Rattle.pages.specs.Table.{neededAt, placeAt, placesOf}
+use Rattle.pages.proofs.Places.{page-other}
+use Rattle.pages.proofs.Keeping.{place-within, effective-needed}
+use Rattle.cache.specs.Steps.{placed}
+use Rattle.cache.specs.Shown.{shown}
+use Rattle.cache.proofs.Uses.{placed-sized, placed-shown, placed-all}
+use Rattle.storage.specs.Storage.{Storage, storageOf, settingsIn, lengthsIn, liveIn, writtenIn, indexBack, versionAt, frameIn, archiveIn, latestIn, frameNumber, newestFrame, Recent, Coherent, WellStore, store}
+use Rattle.storage.specs.Steps.{usedState}
+use Rattle.storage.specs.Admit.{covers}
+use Rattle.storage.proofs.Admitting.{Long, covers-long}
+use Rattle.storage.proofs.Figures.{AlikeAt, frames-alike, frame-at, well-figure, step-versions, step-archive}
+use Rattle.storage.proofs.Numbers.{used-number}
+use Rattle.storage.proofs.Reading.{latest-line}
+use Rattle.storage.proofs.Choosing.{Chosen, place, place-inside, after-bit, cmf-frame, most, some-live, asks-table}
+
+none-off : (m : ℕ) → m - 0 ≡ m
+none-off m = omega arith
+
+or-true : (s : Bool) → (s || true) ≡ true
+or-true true = refl
+or-true false = refl
+
+or-false : (s : Bool) → (s || false) ≡ s
+or-false true = refl
+or-false false = refl
+
+-- what the search finds in CMF itself
+twice : (o : Option Line) (r : Line) → Option·getD o (Option·getD o r) ≡ Option·getD o r
+twice none r = refl
+twice (some y) r = refl
+
+first-twice : (n : ℕ) (row : ℕ → Option Line) (other : Line) → 0 < n → Option·getD (row 0) (versionIn n row other) ≡ versionIn n row other
+unfolding versionIn
+first-twice zero row other h = absurd (omega arith)
+first-twice (suc n) row other h = twice (row 0) (versionIn n (λ j. row (suc j)) other)
+
+first-version : (n : ℕ) (row : ℕ → Option Line) (other y : Line) → 0 < n → row 0 ≡ some y → versionIn n row other ≡ y
+unfolding versionIn
+first-version zero row other y h e = absurd (omega arith)
+first-version (suc n) row other y h e = ap (λ (o : Option Line). Option·getD o (versionIn n (λ j. row (suc j)) other)) e
+
+first-found : (n : ℕ) (f : ℕ → Bool) → 0 < n → f 0 ≡ true → foundIn n f ≡ from-frame 0
+unfolding foundIn
+first-found zero f h e = absurd (omega arith)
+first-found (suc n) f h e = ap (λ (t : Bool). cond t (from-frame 0) (further (foundIn n (λ j. f (suc j))))) e
+
+digits : (m l : ℕ) → m / 8 ≡ l / 8 → m % 8 ≡ l % 8 → m ≡ l
+digits m l d e = omega arith
+
+module _ (x : Storage) (q : WellStore x) (wd a v : ℕ) (p : Placed (settingsIn (x .state)) wd a) (hint page : ℕ) where
+  abbrev l : ℕ
+  l = lineOf a
+
+  pub b : l < x .state .lines
+  b = line-below p
+
+  module _ (c : Chosen x q l b page) where
+    abbrev n : ℕ
+    n = liveIn (x .state)
+
+    abbrev w : Written
+    w = writtenIn x
+
+    -- the line with the value written to its most recent version
+    abbrev pub content : Line
+    content = edit wd (offsetOf a) v (latestIn x l)
+
+    abbrev pub stored : Storage
+    stored =
+        storageOf (usedState (x .state) hint (placed (x .state .cache) l (x .state .cmf) content)) (x .memory .archive) (withPageLine (x .memory .pool) page (l % 8) content)
+        (withWritten w (x .state .tag) l (n - 1)) (set (x .memory .table) (place x q l b) page) (set (x .memory .owners) page (place x q l b)) (x .memory .history)
+
+    whole : length content ≡ 16
+    whole =
+        let line = latest-line x q l b in
+        length-edit wd (offsetOf a) v (latestIn x l) (subst (λ (m : ℕ). offsetOf a + wd ≤ m) (sym (line .long)) (in-line (widths wd (p .width)) a (p .aligned))) ∙ line .long
+
+    long : Long (elements (settingsIn (x .state))) (lengthsIn (x .memory))
+    unfolding enough covers
+    long = covers-long (elements (settingsIn (x .state))) (lengthsIn (x .memory)) (q .long)
+
+    pool-long : 128 * x .state .pages ≤ length (x .memory .pool)
+    unfolding elements
+    pool-long = long .pool
+
+    page-room : 128 * page + 128 ≤ length (x .memory .pool)
+    page-room = omega (arith, c .below, pool-long)
+
+    lengths : lengthsIn (stored .memory) ≡ lengthsIn (x .memory)
+    unfolding withWritten
+    lengths =
+        ap₂ (λ (m g : ℕ) . record { archive = length (x .memory .archive); pool = m; groups = g; table = length (set (x .memory .table) (place x q l b) page); owners = length (set (x .memory .owners) page (place x q l b)); history = length (x .memory .history) })
+        (length-written (x .memory .pool) content (128 * page + 16 * (l % 8)) (omega (arith, page-room)) whole) (length-set (x .memory .groups) _ _)
+        ∙ ap₂ (λ (t o : ℕ). record { archive = length (x .memory .archive); pool = length (x .memory .pool); groups = length (x .memory .groups); table = t; owners = o; history = length (x .memory .history) })
+        (length-set (x .memory .table) (place x q l b) page) (length-set (x .memory .owners) page (place x q l b))
+
+    asks : Asks w l (n - 1)
+    asks = record { lent = q .bits .lent; line-below = b; index-below = omega (arith, some-live x q l b, most x q l b) }
+
+    bit-after : (i m : ℕ) → i < x .state .frames → m < x .state .lines → effective (writtenIn stored) i m ≡ (effective w i m || (eqb i (n - 1) && eqb m l))
+    unfolding usedState
+    bit-after = set-effective w (x .state .tag) l (n - 1) asks (q .bits .tag-below) (q .bits .open-tag)
+
+    -- A version of another line or frame stays as it was.
+    abbrev spot : (index line : ℕ) → ℕ
+    spot i m = placeAt w (frameAt (x .state .frames) (x .state .omf) i) (m / 8)
+
+    in-block : (m : ℕ) → m < x .state .lines → m / 8 < x .state .lines / 8
+    in-block m d = omega (arith, asks-table x q l b .lines-by)
+
+    spot-same : (i m : ℕ) → i < n → m < x .state .lines → spot i m ≡ place x q l b → (i ≡ n - 1) × (m / 8 ≡ l / 8)
+    unfolding placeAt
+    spot-same i m h d e =
+        let omf = q .bits .lent .omf-below in
+        let frame : frameAt (x .state .frames) (x .state .omf) i ≡ frameAt (x .state .frames) (x .state .omf) (n - 1) =
+        sym (digits-div (frameAt (x .state .frames) (x .state .omf) i) (in-block m d)) ∙ (ap (λ (y : ℕ). y / (x .state .lines / 8)) e ∙ digits-div (frameAt (x .state .frames) (x .state .omf) (n - 1)) (in-block l b))
+        in
+        (sym (index-frame (x .state .frames) (x .state .omf) omf i (omega (arith, most x q l b))) ∙ (ap (indexOf (x .state .frames) (x .state .omf)) frame ∙ index-frame (x .state .frames) (x .state .omf) omf (n - 1) (asks .index-below)),
+        sym (digits-mod (frameAt (x .state .frames) (x .state .omf) i) (in-block m d)) ∙ (ap (λ (y : ℕ). y % (x .state .lines / 8)) e ∙ digits-mod (frameAt (x .state .frames) (x .state .omf) (n - 1)) (in-block l b)))
+
+    spot-needed : (i m : ℕ) → i < n → m < x .state .lines → effective w i m ≡ true → neededAt w (spot i m) ≡ true
+    spot-needed i m h d e = effective-needed w i m (q .bits .lent .omf-below) (omega (arith, most x q l b)) (in-block m d) e
+
+    abbrev old : (index line : ℕ) → ℕ
+    old i m = getD (x .memory .table) (spot i m) 0
+
+    table-room : place x q l b < length (x .memory .table)
+    table-room = omega (arith, place-inside x q l b, asks-table x q l b .table-long)
+
+    version-after : (i m : ℕ) → i < n → m < x .state .lines → effective w i m ≡ true → (i ≡ n - 1 → m ≡ l → ⊥) → versionAt stored i m ≡ versionAt x i m
+    unfolding versionAt usedState placeAt
+    version-after i m h d e other = go (ℕ-discrete (spot i m) (place x q l b))
+      where
+        go : Dec (spot i m ≡ place x q l b)
+            → pageLine (withPageLine (x .memory .pool) page (l % 8) content) (getD (set (x .memory .table) (place x q l b) page) (spot i m) 0) (m % 8) ≡ pageLine (x .memory .pool) (old i m) (m % 8)
+        go (yes s) =
+            let same = spot-same i m h d s in
+            let own : old i m ≡ page = ap (λ (y : ℕ). getD (x .memory .table) y 0) s ∙ c .own (ap (neededAt w) (sym s) ∙ spot-needed i m h d e) in
+            ap (λ (y : ℕ). pageLine (withPageLine (x .memory .pool) page (l % 8) content) y (m % 8)) (ap (λ (y : ℕ). getD (set (x .memory .table) (place x q l b) page) y 0) s ∙ getD-set-same (x .memory .table) (place x q l b) page 0 table-room)
+            ∙ (page-other (x .memory .pool) content page (l % 8) page (m % 8) page-room whole (omega arith) (omega arith) (λ _ t. other (same .0) (digits m l (same .1) t))
+            ∙ ap (λ (y : ℕ). pageLine (x .memory .pool) y (m % 8)) (sym own))
+        go (no s) =
+            ap (λ (y : ℕ). pageLine (withPageLine (x .memory .pool) page (l % 8) content) y (m % 8)) (getD-set-other (x .memory .table) (place x q l b) (spot i m) page 0 s)
+            ∙ page-other (x .memory .pool) content page (l % 8) (old i m) (m % 8) page-room whole (omega arith) (omega arith)
+            (λ t _. c .apart (spot i m) (place-within w (frameAt (x .state .frames) (x .state .omf) i) (m / 8) (frame-below (x .state .frames) (x .state .omf) (q .bits .lent .omf-below) i) (in-block m d)) (spot-needed i m h d e) s t)
+
+    -- The line written has its version in CMF,
+    own-bit : effective (writtenIn stored) (n - 1) l ≡ true
+    own-bit =
+        bit-after (n - 1) l (asks .index-below) b
+        ∙ (ap₂ (λ (s t : Bool). effective w (n - 1) l || (s && t)) (eq-eqb (n - 1) (n - 1) refl) (eq-eqb l l refl) ∙ or-true (effective w (n - 1) l))
+
+    own-version : versionAt stored (n - 1) l ≡ content
+    unfolding versionAt usedState placeAt
+    own-version =
+        ap (λ (y : ℕ). pageLine (withPageLine (x .memory .pool) page (l % 8) content) y (l % 8)) (getD-set-same (x .memory .table) (place x q l b) page 0 table-room)
+        ∙ read-own (x .memory .pool) content (128 * page + 16 * (l % 8)) (omega (arith, page-room)) whole
+
+    own-frame : frameIn stored 0 l ≡ some content
+    unfolding usedState
+    own-frame =
+        frame-at stored 0 l (some-live x q l b) b
+        ∙ ap₂ (λ (t : Bool) (y : Line). cond t (some y) none) (ap (λ (i : ℕ). effective (writtenIn stored) i l) first ∙ own-bit) (ap (λ (i : ℕ). versionAt stored i l) first ∙ own-version)
+      where
+        first : n - 1 - 0 ≡ n - 1
+        first = none-off (n - 1)
+
+    -- and every other frame and line is as it was.
+    other-alike : (i m : ℕ) → i < n → m < x .state .lines → (i ≡ n - 1 → m ≡ l → ⊥) → AlikeAt stored x i i m
+    other-alike i m h d other =
+        record {
+          bit = bit-after i m (omega (arith, most x q l b)) d ∙ (ap (λ (t : Bool). effective w i m || t) (off (ℕ-discrete i (n - 1)) (ℕ-discrete m l)) ∙ or-false (effective w i m));
+          version = λ e. version-after i m h d e other;
+        }
+      where
+        off : Dec (i ≡ n - 1) → Dec (m ≡ l) → (eqb i (n - 1) && eqb m l) ≡ false
+        off (yes s) (yes t) = absurd (other s t)
+        off (yes s) (no t) = ap (λ (y : Bool). eqb i (n - 1) && y) (ne-eqb m l t) ∙ and-false (eqb i (n - 1))
+        off (no s) t = ap (λ (y : Bool). y && eqb m l) (ne-eqb i (n - 1) s)
+
+    other-frame : (j m : ℕ) → (j ≡ 0 → m ≡ l → ⊥) → frameIn stored j m ≡ frameIn x j m
+    unfolding usedState
+    other-frame j m other =
+        frames-alike stored x j j m refl (λ h. h) (λ h. h)
+        (λ h _ d. other-alike (n - 1 - j) m (omega arith) d (λ s t. other (newest n j h s) t))
+      where
+        newest : (n j : ℕ) → j < n → n - 1 - j ≡ n - 1 → j ≡ 0
+        newest n j h s = omega arith
+
+    -- Figure 2's WRITE
+    stored-frame : (j m : ℕ) → frameIn stored j m ≡ written wd a v (figureOf store x) j m
+    unfolding written figureOf mrv latestIn
+    stored-frame zero m = go (ℕ-discrete m l)
+      where
+        go : Dec (m ≡ l) → frameIn stored 0 m ≡ cond (eqb l m) (some (edit wd (offsetOf a) v (Option·getD (frameIn x 0 m) (latestIn x m)))) (frameIn x 0 m)
+        go (yes s) =
+            ap (frameIn stored 0) s
+            ∙ (own-frame
+            ∙ (ap (λ (y : Line). some (edit wd (offsetOf a) v y)) (sym (first-twice n (λ j. frameIn x j l) (archiveIn x l) (some-live x q l b)))
+            ∙ (sym (ap (λ (t : Bool). cond t (some (edit wd (offsetOf a) v (Option·getD (frameIn x 0 l) (latestIn x l)))) (frameIn x 0 l)) (eq-eqb l l refl))
+            ∙ ap (λ (y : ℕ). cond (eqb l y) (some (edit wd (offsetOf a) v (Option·getD (frameIn x 0 y) (latestIn x y)))) (frameIn x 0 y)) (sym s))))
+        go (no s) =
+            other-frame 0 m (λ _ t. s t)
+            ∙ sym (ap (λ (t : Bool). cond t (some (edit wd (offsetOf a) v (Option·getD (frameIn x 0 m) (latestIn x m)))) (frameIn x 0 m)) (ne-eqb l m (λ t. s (sym t))))
+    stored-frame (suc j) m = other-frame (suc j) m (λ s _. omega arith)
+
+    stored-figure : figureOf store stored ≡ figureStep (WRITE wd a v) (figureOf store x)
+    unfolding figureOf figureStep usedState archiveIn
+    stored-figure =
+        ap (λ (f : ℕ → ℕ → Option Line). record { live = n; frame = f; archive = archiveIn x }) (fun-ext (λ j. fun-ext (λ m. stored-frame j m)))
+
+    next-well : WellFigure (settingsIn (x .state)) (figureStep (WRITE wd a v) (figureOf store x))
+    unfolding seenOf figureSeen
+    next-well = write-well (settingsIn (x .state)) (figureOf store x) (well-figure x q) wd a v p (c .fewer)
+
+    -- the most recent version of the line written, and of the others
+    own-latest : latestIn stored l ≡ content
+    unfolding latestIn usedState
+    own-latest = first-version n (λ j. frameIn stored j l) (archiveIn stored l) content (some-live x q l b) own-frame
+
+    own-newest : newestFrame stored l ≡ x .state .cmf
+    unfolding newestFrame frameNumber usedState isWritten
+    own-newest =
+        ap (frameNumber (stored .state)) (first-found n (λ j. isWritten (frameIn stored j l)) (some-live x q l b) (ap isWritten own-frame))
+        ∙ (ap (frameAt (x .state .frames) (x .state .omf)) (none-off (n - 1)) ∙ cmf-frame x q l b)
+
+    same-live : liveIn (stored .state) ≡ n
+    unfolding usedState
+    same-live = refl
+
+    module _ (m : ℕ) (other : m ≢ l) where
+      other-latest : latestIn stored m ≡ latestIn x m
+      unfolding latestIn usedState archiveIn
+      other-latest = ap (λ (row : ℕ → Option Line). versionIn n row (archiveIn x m)) (fun-ext (λ j. other-frame j m (λ _ t. other t)))
+
+      other-newest : newestFrame stored m ≡ newestFrame x m
+      unfolding newestFrame
+      other-newest =
+          ap₂ (λ (k : ℕ) (row : ℕ → Option Line). frameNumber (stored .state) (foundIn k (λ j. isWritten (row j)))) same-live (fun-ext (λ j. other-frame j m (λ _ t. other t)))
+          ∙ used-number (x .state) hint (placed (x .state .cache) l (x .state .cmf) content) (foundIn n (λ j. isWritten (frameIn x j m)))
+
+    stored-cache : shown (stored .state .cache) ≡ use-line l (shown (x .state .cache))
+    unfolding usedState
+    stored-cache = placed-shown (x .state .cache) (q .sized) l (x .state .cmf) content whole
+
+    stored-coherent : Coherent stored
+    unfolding usedState
+    stored-coherent =
+        placed-all (x .state .cache) (q .sized) l (x .state .cmf) content whole (Recent x) (Recent stored) (settingsIn (x .state)) (q .entries) (q .coherent) (sym own-latest, sym own-newest)
+        (λ m g y other r. (r .0 ∙ sym (other-latest m other), r .1 ∙ sym (other-newest m other)))
+
+    stored-well : WellStore stored
+    unfolding usedState
+    stored-well =
+        record {
+          fits = q .fits;
+          long = subst (λ (r : Pieces). enough (settingsIn (x .state)) r ≡ true) (sym lengths) (q .long);
+          bits = set-keeps w (x .state .tag) n l (n - 1) (q .bits) asks (omega (arith, some-live x q l b));
+          pages = c .confirmed;
+          sized = placed-sized (x .state .cache) (q .sized) l (x .state .cmf) content whole;
+          version-line = step-versions stored _ _ stored-figure next-well;
+          archive-line = step-archive stored _ _ stored-figure next-well;
+          entries = subst (WellCache (settingsIn (x .state))) (sym stored-cache) (use-well (settingsIn (x .state)) l (shown (x .state .cache)) b (q .entries));
+          coherent = stored-coherent;
+        }
+
+    pub stored-followed : Followed store (WRITE wd a v) x (outcome 0) stored
+    unfolding accepted cmfStep omfStep cacheStep usedState
+    stored-followed =
+        record {
+          answer = refl;
+          well = stored-well;
+          settings = refl;
+          cmf = refl;
+          omf = refl;
+          figure = stored-figure;
+          cache = stored-cache;
+        }

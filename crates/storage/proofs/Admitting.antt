@@ -20,6 +20,7 @@ use Rattle.frames.specs.Circle.{Turn}
 use Rattle.written.specs.Bits.{writtenOf, Lent}
 use Rattle.pages.specs.Table.{AsksTable}
 use Rattle.versions.specs.Newest.{AsksNewest}
+use Rattle.versions.specs.Steps.{AsksPageFor}
 use Rattle.storage.specs.Admit.{covers, inElements, admitted}
 
 -- Each piece is long enough.
@@ -209,4 +210,16 @@ module _ (s : Settings) (cmf omf owners : ℕ) (archive pool groups table histor
         pages-few = r .good .pages-to;
         archive-long = r .long .archive;
         pool-long = r .long .pool;
+      }
+
+module _ (s : Settings) (cmf omf archive pool : ℕ) (groups table owners history : List ℕ)
+    (r : Room s cmf omf (record { archive = archive; pool = pool; groups = length groups; table = length table; owners = length owners; history = length history })) where
+  pub room-page : (line : ℕ) → line < s .lines → AsksPageFor (writtenOf (s .lines) (s .frames) omf groups history) (s .pages) cmf line table owners
+  unfolding elements
+  room-page line b =
+      record {
+        asks = room-table s cmf omf archive pool (length owners) groups table history r;
+        line-below = b;
+        frame-below = r .fits .cmf-below;
+        owners-long = r .long .owners;
       }

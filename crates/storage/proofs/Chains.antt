@@ -10,7 +10,7 @@ use lib.Dec.{ltb, leb, eqb}
 use Rattle.rules.specs.Settings.{Settings, Pieces, elements, enough}
 use Rattle.rules.specs.Line.{lineOf, offsetOf}
 use Rattle.rules.specs.Refusal.{unless, liveFrames, stateFits, isWidth, askedRefusal, lineRefusal, markedRefusal, placeRefusal, writeRefusal}
-use Rattle.rules.proofs.Chain.{Placed, fails, passes, passed, place-passed, marked-passed}
+use Rattle.rules.proofs.Chain.{Placed, fails, passes, passed, place-passed, write-passed, marked-passed}
 use Rattle.rules.proofs.Width.{widths, in-line, line-below}
 use Rattle.rules.proofs.Circle.{live-some, live-at-most}
 use Rattle.frames.specs.declared.Found.{Found}
@@ -97,6 +97,19 @@ module _ (s : Settings) (cmf omf : ℕ) (p : Pieces) where
   place-links w a =
       join (unless (isWidth w) 7) (λ rest. unless (eqb (a % w) 0) 8 (unless (leb (a + w) (16 * s .lines)) 9 rest)) (link (isWidth w) 7 (λ e. omega arith))
       (join (unless (eqb (a % w) 0) 8) (unless (leb (a + w) (16 * s .lines)) 9) (link (eqb (a % w) 0) 8 (λ e. omega arith)) (link (leb (a + w) (16 * s .lines)) 9 (λ e. omega arith)))
+
+  -- WRITE's tests before 13: a refusal stands whatever comes after them, and once they pass 13 decides
+  write-links : (w addr v : ℕ) → Links (λ rest. admitted s cmf omf p (writeRefusal s w addr v rest))
+  unfolding writeRefusal
+  write-links w addr v =
+      join (admitted s cmf omf p) (λ rest. placeRefusal s w addr (unless (ltb v (256 ^ w)) 10 rest)) admitted-links
+      (join (placeRefusal s w addr) (unless (ltb v (256 ^ w)) 10) (place-links w addr) (link (ltb v (256 ^ w)) 10 (λ e. omega arith)))
+
+  pub write-stands : (w addr v a : ℕ) → a ≡ admitted s cmf omf p (writeRefusal s w addr v 0) → a ≢ 0 → (rest : ℕ) → a ≡ admitted s cmf omf p (writeRefusal s w addr v rest)
+  write-stands w addr v a told z rest = turned (λ r. admitted s cmf omf p (writeRefusal s w addr v r)) (write-links w addr v) a rest told z
+
+  pub write-decides : (w addr v a : ℕ) → a ≡ admitted s cmf omf p (writeRefusal s w addr v 0) → a ≡ 0 → (rest : ℕ) → rest ≡ admitted s cmf omf p (writeRefusal s w addr v rest)
+  write-decides w addr v a told z rest = passes-on (λ r. admitted s cmf omf p (writeRefusal s w addr v r)) (write-links w addr v) a told z rest rest refl
 
   -- no refusal: the rest refuses nothing either
   pub admitted-rest : (a rest : ℕ) → a ≡ admitted s cmf omf p rest → a ≡ 0 → rest ≡ 0
@@ -242,6 +255,12 @@ pub record PlaceRoom (s : Settings) (cmf omf : ℕ) (p : Pieces) (w a : ℕ) : T
   pub room : Room s cmf omf p
   pub line-below : lineOf a < s .lines
   pub bytes : AsksBytes w (offsetOf a)
+
+pub write-room : (s : Settings) (cmf omf : ℕ) (p : Pieces) (r w a v : ℕ) → r ≡ admitted s cmf omf p (writeRefusal s w a v 0) → r ≡ 0
+    → PlaceRoom s cmf omf p w a × Placed s w a
+write-room s cmf omf p r w a v told z =
+    let d = write-passed s w a v 0 (admitted-rest s cmf omf p r _ told z) .0 in
+    (record { room = admitted-room s cmf omf p r _ told z; line-below = line-below d; bytes = place-bytes s w a d }, d)
 
 pub place-room : (s : Settings) (cmf omf : ℕ) (p : Pieces) (r w a : ℕ) → r ≡ admitted s cmf omf p (placeRefusal s w a 0) → r ≡ 0 → PlaceRoom s cmf omf p w a
 place-room s cmf omf p r w a told z =

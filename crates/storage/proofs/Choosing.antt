@@ -5,7 +5,8 @@ use mathlib.Core.Bool.{Bool, true, false, cond, not, _&&_, false≢true}
 use mathlib.Core.List.{List}
 use Prim.Native.Nat.{ℕ, _+_, _-_, _*_, _/_, _%_, _≤_, _<_, min}
 use native.Mathlib.Omega.{arith}
-use borrow.Author.Tests.{lt-ltb, le-leb, lt-leb}
+use native.Mathlib.Decide.{decLt}
+use borrow.Author.Tests.{lt-ltb, le-ltb, le-leb, lt-leb}
 use lib.Dec.{ltb, leb}
 use lib.ListN.{length, getD, set}
 use lib.Seq.{set-getD}
@@ -51,6 +52,19 @@ is-at Nothing = false
 at-some : {i : ℕ} → At i ≡ Nothing → ⊥
 unfolding is-at
 at-some e = false≢true (sym (ap is-at e))
+
+-- A page chosen is one of the pages, on any storage.
+pub page-below : (w : Written) (pages hint : ℕ) (table owners : List ℕ) (frame l p : ℕ) → pageFor w pages hint table owners frame l ≡ At p → p < pages
+unfolding pageFor
+page-below w pages hint table owners frame l p e = go (needs (effective w (indexOf (w .frames) (w .omf) frame)) (l / 8)) (decLt entry pages) e
+  where
+    entry : ℕ
+    entry = getD table (entryPlace (w .lines) frame l) 0
+
+    go : (t : Bool) → Dec (entry < pages) → cond t (cond (ltb entry pages) (At entry) Nothing) (given pages (min hint pages) (heldAt w table owners)) ≡ At p → p < pages
+    go true (yes h) e = subst (λ (y : ℕ). y < pages) (at-same (sym (ap (λ (t : Bool). cond t (At entry) Nothing) (lt-ltb entry pages h)) ∙ e)) h
+    go true (no h) e = absurd (at-some (sym e ∙ ap (λ (t : Bool). cond t (At entry) Nothing) (le-ltb entry pages (omega arith))))
+    go false h e = given-free pages (min hint pages) (heldAt w table owners) (omega arith) p e .0
 
 -- Document 01's 13 by the storage: whether the block's page in CMF is needed, and how many pages are.
 module _ (x : Storage) (q : WellStore x) (l : ℕ) (b : l < x .state .lines) where
@@ -126,6 +140,7 @@ module _ (x : Storage) (q : WellStore x) (l : ℕ) (b : l < x .state .lines) whe
   pub record Chosen (p : ℕ) : Type 0 where
     pub below : p < x .state .pages
     pub own : neededAt w place ≡ true → getD (x .memory .table) place 0 ≡ p
+    pub unheld : neededAt w place ≡ false → heldAt w (x .memory .table) (x .memory .owners) p ≡ false
     pub apart : (y : ℕ) → y < placesOf w → neededAt w y ≡ true → y ≢ place → getD (x .memory .table) y 0 ≢ p
     pub confirmed :
         Confirmed (neededAt after-bit) (placesOf w) (x .state .pages) (λ y. getD (set (x .memory .table) place p) y 0)
@@ -160,12 +175,13 @@ module _ (x : Storage) (q : WellStore x) (l : ℕ) (b : l < x .state .lines) whe
       record {
         below = c .0;
         own = λ _. refl;
+        unheld = λ d. absurd (false≢true (sym d ∙ e));
         apart = λ y h d ne same. ne (one-page (neededAt w) (placesOf w) (x .state .pages) (λ y. getD (x .memory .table) y 0) (λ r. getD (x .memory .owners) r 0) (q .pages) y place h d place-inside e same);
         confirmed =
-          subst (λ (t : List ℕ). Confirmed (neededAt after-bit) (placesOf w) (x .state .pages) (λ y. getD t y 0) (λ r. getD (set (x .memory .owners) (getD (x .memory .table) place 0) place) r 0)) (sym (set-getD (x .memory .table) place 0))
-          (subst (λ (o : List ℕ). Confirmed (neededAt after-bit) (placesOf w) (x .state .pages) (λ y. getD (x .memory .table) y 0) (λ r. getD o r 0))
-          (sym (ap (set (x .memory .owners) (getD (x .memory .table) place 0)) (sym (c .1)) ∙ set-getD (x .memory .owners) (getD (x .memory .table) place 0) 0))
-          (set-confirmed w (x .state .tag) l (n - 1) asks (q .bits .tag-below) (q .bits .open-tag) (x .state .pages) (λ y. getD (x .memory .table) y 0) (λ r. getD (x .memory .owners) r 0) e (q .pages)));
+            subst (λ (t : List ℕ). Confirmed (neededAt after-bit) (placesOf w) (x .state .pages) (λ y. getD t y 0) (λ r. getD (set (x .memory .owners) (getD (x .memory .table) place 0) place) r 0)) (sym (set-getD (x .memory .table) place 0))
+            (subst (λ (o : List ℕ). Confirmed (neededAt after-bit) (placesOf w) (x .state .pages) (λ y. getD (x .memory .table) y 0) (λ r. getD o r 0))
+            (sym (ap (set (x .memory .owners) (getD (x .memory .table) place 0)) (sym (c .1)) ∙ set-getD (x .memory .owners) (getD (x .memory .table) place 0) 0))
+            (set-confirmed w (x .state .tag) l (n - 1) asks (q .bits .tag-below) (q .bits .open-tag) (x .state .pages) (λ y. getD (x .memory .table) y 0) (λ r. getD (x .memory .owners) r 0) e (q .pages)));
         free = ap (λ (t : Bool). not t && leb (x .state .pages) (seenOf store x .pages)) (current-needed ∙ e);
         fewer = inl (current-needed ∙ e);
       }
@@ -180,10 +196,11 @@ module _ (x : Storage) (q : WellStore x) (l : ℕ) (b : l < x .state .lines) whe
       record {
         below = small;
         own = λ d. absurd (false≢true (sym e ∙ d));
+        unheld = λ _. empty;
         apart = λ y h d ne. free-of (neededAt w) (placesOf w) (x .state .pages) (λ y. getD (x .memory .table) y 0) (λ r. getD (x .memory .owners) r 0) (q .pages) p empty y h d;
         confirmed =
-          claimed-confirmed w (x .state .tag) l (n - 1) asks (q .bits .tag-below) (q .bits .open-tag) (x .state .pages) (x .memory .table) (x .memory .owners) p asks-table
-          (omega (arith, owners-long)) small empty (q .pages);
+            claimed-confirmed w (x .state .tag) l (n - 1) asks (q .bits .tag-below) (q .bits .open-tag) (x .state .pages) (x .memory .table) (x .memory .owners) p asks-table
+            (omega (arith, owners-long)) small empty (q .pages);
         free = ap₂ (λ (s t : Bool). not s && t) (current-needed ∙ e) (lt-leb (x .state .pages) (seenOf store x .pages) few);
         fewer = inr few;
       }

@@ -71,7 +71,7 @@ frames-alike t x i j l e there back alike = go (decLt i (liveIn (t .state))) (de
         outside (yes d) = absurd (h (back d))
         outside (no d) = omega arith
 
-archive-past : (x : Storage) (l : ℕ) → x .state .lines ≤ l → archiveIn x l ≡ zeros
+pub archive-past : (x : Storage) (l : ℕ) → x .state .lines ≤ l → archiveIn x l ≡ zeros
 unfolding archiveIn
 archive-past x l h = ap (λ (t : Bool). cond t (archiveLine (x .memory .archive) l) zeros) (le-ltb l (x .state .lines) h)
 

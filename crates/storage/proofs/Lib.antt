@@ -6,10 +6,13 @@ pub mod Figures
 pub mod Rows
 pub mod Past
 pub mod Numbers
-pub mod Rolling
 pub mod Reading
 pub mod Using
 pub mod Starting
+pub mod Marking
+pub mod Rolling
+pub mod Folds
+pub mod Collecting
 pub mod Choosing
 pub mod Writing
-pub mod Marking
+pub mod Storing

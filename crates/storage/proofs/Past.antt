@@ -10,8 +10,9 @@ use lib.Dec.{ltb}
 use lib.ListN.{length, getD, set, drop, length-drop, length-set}
 use lib.Seq.{ext-getD, getD-drop}
 use Rattle.frames.proofs.Lists.{drop-set, rewrite-drop, rewrite-length}
-use Rattle.written.specs.Bits.{Written, writtenOf}
-use Rattle.written.specs.Steps.{Entered, RolledBack, swept, nextTag}
+use Rattle.written.specs.Bits.{Written, writtenOf, Lent}
+use Rattle.written.proofs.Rolling.{group-place}
+use Rattle.written.specs.Steps.{Entered, RolledBack, swept, nextTag, cleared, lowered, withWritten}
 
 -- The same of a list is true of what is left of it behind an element, if it is true of each element there.
 drop-alike : (n : ℕ) (xs ys : List ℕ) → length xs ≡ length ys → ((i : ℕ) → n ≤ i → getD xs i 0 ≡ getD ys i 0) → drop n xs ≡ drop n ys
@@ -52,3 +53,32 @@ module _ (w : Written) (tag kept : ℕ) (groups history : List ℕ) (next : ℕ)
   rolled-history-past =
       ap (drop 256) (r .history-is)
       ∙ (drop-set (r .entry) next 256 65535 next-small ∙ drop-alike 256 (r .entry) (w .history) (r .enters .long) (λ i h. r .enters .past i (omega arith)))
+
+-- ADVANCE; the archive's part is in Folds
+module _ (lines frames omf k : ℕ) (groups : List ℕ) where
+  pub cleared-long : length (cleared lines frames omf k groups) ≡ length groups
+  unfolding cleared
+  cleared-long = rewrite-length _ groups (frames / 16 * lines)
+
+  pub cleared-past : drop (frames / 16 * lines) (cleared lines frames omf k groups) ≡ drop (frames / 16 * lines) groups
+  unfolding cleared
+  cleared-past = rewrite-drop _ groups (frames / 16 * lines) (frames / 16 * lines) (omega arith)
+
+module _ (k : ℕ) (history : List ℕ) where
+  pub lowered-long : length (lowered k history) ≡ length history
+  unfolding lowered
+  lowered-long = rewrite-length _ history 256
+
+  pub lowered-past : drop 256 (lowered k history) ≡ drop 256 history
+  unfolding lowered
+  lowered-past = rewrite-drop _ history 256 256 (omega arith)
+
+-- WRITE
+module _ (w : Written) (tag l i : ℕ) where
+  pub written-long : length (withWritten w tag l i) ≡ length (w .groups)
+  unfolding withWritten
+  written-long = length-set (w .groups) _ _
+
+  pub written-past : Lent w → l < w .lines → drop (w .frames / 16 * w .lines) (withWritten w tag l i) ≡ drop (w .frames / 16 * w .lines) (w .groups)
+  unfolding withWritten
+  written-past lent b = drop-set (w .groups) _ (w .frames / 16 * w .lines) _ (group-place w lent i l b)

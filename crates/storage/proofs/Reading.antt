@@ -11,7 +11,6 @@ use lib.ListN.{length}
 use Rattle.rules.specs.Line.{Line, IsLine, zeros}
 use Rattle.rules.specs.Call.{Origin}
 use Rattle.rules.specs.Call.Origin.{from-cache, from-frame, from-archive}
-use Rattle.rules.specs.Seen.{further}
 use Rattle.rules.specs.Figure2.{versionIn, foundIn, isWritten, mrv, figureSeen}
 use Rattle.rules.specs.Figure3.{holds}
 use Rattle.rules.specs.Promise.{figureOf, seenOf}
@@ -40,22 +39,8 @@ use Rattle.versions.specs.declared.Version.{Version}
 use Rattle.versions.specs.Newest.{pageOf, spotOf, contentOf, numberOf, backIn, originOf, newestOf, latestFrom, latestOf}
 use Rattle.storage.specs.Storage.{Storage, settingsIn, liveIn, writtenIn, indexBack, versionAt, frameIn, archiveIn, latestIn, frameNumber, newestFrame, WellStore, store}
 use Rattle.storage.proofs.Counting.{written-effective}
-use Rattle.storage.proofs.Figures.{frame-at, well-figure}
-
--- A search looks at the frames searched alone.
-pub version-same : (n : ℕ) (row other : ℕ → Option Line) (x : Line) → ((j : ℕ) → j < n → row j ≡ other j) → versionIn n row x ≡ versionIn n other x
-unfolding versionIn
-version-same zero row other x h = refl
-version-same (suc n) row other x h =
-    ap₂ (λ (a : Option Line) (b : Line). Option·getD a b) (h 0 (omega arith))
-    (version-same n (λ j. row (suc j)) (λ j. other (suc j)) x (λ j b. h (suc j) (omega arith)))
-
-pub found-same : (n : ℕ) (f g : ℕ → Bool) → ((j : ℕ) → j < n → f j ≡ g j) → foundIn n f ≡ foundIn n g
-unfolding foundIn
-found-same zero f g h = refl
-found-same (suc n) f g h =
-    ap₂ (λ (a : Bool) (b : Origin). cond a (from-frame 0) (further b)) (h 0 (omega arith))
-    (found-same n (λ j. f (suc j)) (λ j. g (suc j)) (λ j b. h (suc j) (omega arith)))
+use Rattle.storage.proofs.Figures.{frame-at}
+use Rattle.storage.proofs.Rows.{version-same, found-same}
 
 module _ (x : Storage) (q : WellStore x) where
   abbrev n : ℕ
@@ -106,18 +91,19 @@ module _ (x : Storage) (q : WellStore x) where
         version-same n (λ j. frameIn x j l) (λ j. cond (bits (n - 1 - j)) (some (versionAt x (n - 1 - j) l)) none) (archiveIn x l) (λ j h. frame-at x j l h b)
         ∙ (version-back n bits (λ i. versionAt x i l) (archiveIn x l) ∙ ap (versionOf (λ i. versionAt x i l) (archiveIn x l)) (sym newest-is))
 
-    spotted : (r : Found) → ((i : ℕ) → r ≡ At i → Greatest n bits i)
+    -- a version that a search found stands where the code looks for it
+    pub version-content : (r : Found) → ((i : ℕ) → r ≡ At i → (i < n) × (bits i ≡ true))
         → contentOf (x .memory .archive) (x .memory .pool) l (spotOf (x .state .lines) (x .state .frames) (x .state .omf) (x .state .pages) (x .memory .table) l r)
         ≡ versionOf (λ i. versionAt x i l) (archiveIn x l) r
     unfolding contentOf spotOf versionOf versionAt archiveIn pageOf placeAt
-    spotted (At i) h =
+    version-content (At i) h =
         let g = h i refl in
-        ap (λ (t : Bool). contentOf (x .memory .archive) (x .memory .pool) l (cond t (Page (page i l)) Archive)) (lt-ltb (page i l) (x .state .pages) (page-known i l (g .below) b (g .passes)))
-    spotted Nothing h = sym (ap (λ (t : Bool). cond t (archiveLine (x .memory .archive) l) zeros) (lt-ltb l (x .state .lines) b))
+        ap (λ (t : Bool). contentOf (x .memory .archive) (x .memory .pool) l (cond t (Page (page i l)) Archive)) (lt-ltb (page i l) (x .state .pages) (page-known i l (g .0) b (g .1)))
+    version-content Nothing h = sym (ap (λ (t : Bool). cond t (archiveLine (x .memory .archive) l) zeros) (lt-ltb l (x .state .lines) b))
 
     pub content-latest : contentOf (x .memory .archive) (x .memory .pool) l (spotOf (x .state .lines) (x .state .frames) (x .state .omf) (x .state .pages) (x .memory .table) l newest)
         ≡ latestIn x l
-    content-latest = spotted newest newest-facts ∙ sym latest-found
+    content-latest = version-content newest (λ i e. (newest-facts i e .below, newest-facts i e .passes)) ∙ sym latest-found
 
     -- and its frame
     origin-found : foundIn n (λ j. isWritten (frameIn x j l)) ≡ backOf n newest

@@ -4,7 +4,7 @@ use mathlib.Core.Bool.{Bool, true, false, cond, false≢true}
 use mathlib.Core.Option.{Option, none, some, Option·getD}
 use Prim.Native.Nat.{ℕ, zero, suc, _+_, _-_, _≤_, _<_}
 use native.Mathlib.Omega.{arith}
-use borrow.Author.Tests.{lt-ltb}
+use borrow.Author.Tests.{lt-ltb, le-ltb}
 use lib.Dec.{leb·suc-suc}
 use Rattle.rules.specs.Line.{Line}
 use Rattle.rules.specs.Call.{Origin}
@@ -90,3 +90,86 @@ kept-version (suc k) m (suc n) row rest other e same d =
         → Option·getD v (versionIn n (λ j. row (suc j)) other) ≡ versionIn m rest other
     go ih none d = ih (sym (further-dropped k (foundIn n (λ j. isWritten (row (suc j))))) ∙ d)
     go ih (some v) d = absurd (false≢true (sym d ∙ lt-ltb 0 (suc k) (omega arith)))
+
+-- Rows with the same versions in their first n frames.
+pub version-same : (n : ℕ) (row rest : ℕ → Option Line) (other : Line) → ((j : ℕ) → j < n → row j ≡ rest j) → versionIn n row other ≡ versionIn n rest other
+unfolding versionIn
+version-same zero row rest other same = refl
+version-same (suc n) row rest other same =
+    ap₂ (λ (o : Option Line) (v : Line). Option·getD o v) (same 0 (omega arith))
+    (version-same n (λ j. row (suc j)) (λ j. rest (suc j)) other (λ j b. same (suc j) (omega arith)))
+
+pub found-same : (n : ℕ) (f g : ℕ → Bool) → ((j : ℕ) → j < n → f j ≡ g j) → foundIn n f ≡ foundIn n g
+unfolding foundIn
+found-same zero f g same = refl
+found-same (suc n) f g same =
+    ap₂ (λ (b : Bool) (o : Origin). cond b (from-frame 0) (further o)) (same 0 (omega arith))
+    (found-same n (λ j. f (suc j)) (λ j. g (suc j)) (λ j b. same (suc j) (omega arith)))
+
+-- A version in CMF is found there.
+twice : (o : Option Line) (r : Line) → Option·getD o (Option·getD o r) ≡ Option·getD o r
+twice none r = refl
+twice (some y) r = refl
+
+pub current-twice : (n : ℕ) (row : ℕ → Option Line) (other : Line) → 0 < n → Option·getD (row 0) (versionIn n row other) ≡ versionIn n row other
+unfolding versionIn
+current-twice zero row other h = absurd (omega arith)
+current-twice (suc n) row other h = twice (row 0) (versionIn n (λ j. row (suc j)) other)
+
+pub current-version : (n : ℕ) (row : ℕ → Option Line) (other y : Line) → 0 < n → row 0 ≡ some y → versionIn n row other ≡ y
+unfolding versionIn
+current-version zero row other y h e = absurd (omega arith)
+current-version (suc n) row other y h e = ap (λ (o : Option Line). Option·getD o (versionIn n (λ j. row (suc j)) other)) e
+
+pub current-found : (n : ℕ) (f : ℕ → Bool) → 0 < n → f 0 ≡ true → foundIn n f ≡ from-frame 0
+unfolding foundIn
+current-found zero f h e = absurd (omega arith)
+current-found (suc n) f h e = ap (λ (t : Bool). cond t (from-frame 0) (further (foundIn n (λ j. f (suc j))))) e
+
+-- A search of n frames is one of the m newest, with what the k others give behind it.
+pub split-version : (m k n : ℕ) (row newer : ℕ → Option Line) (other : Line) → n ≡ m + k → ((j : ℕ) → j < m → newer j ≡ row j)
+    → versionIn m newer (versionIn k (λ j. row (m + j)) other) ≡ versionIn n row other
+unfolding versionIn
+split-version zero k n row newer other e same =
+    let all : k ≡ n = omega arith in
+    ap₂ (λ (a : ℕ) (r : ℕ → Option Line). versionIn a r other) all (fun-ext (λ j. ap row (omega arith)))
+split-version (suc m) k zero row newer other e same = absurd (omega arith)
+split-version (suc m) k (suc n) row newer other e same =
+    ap₂ (λ (o : Option Line) (v : Line). Option·getD o v) (same 0 (omega arith))
+    (ap (λ (r : ℕ → Option Line). versionIn m (λ j. newer (suc j)) (versionIn k r other)) (fun-ext (λ j. ap row (omega arith)))
+    ∙ split-version m k n (λ j. row (suc j)) (λ j. newer (suc j)) other (omega arith) (λ j b. same (suc j) (omega arith)))
+
+-- The m newest frames alone show a version that lies in one of them, and else the archive.
+abbrev pub first : ℕ → Origin → Origin
+first m o = cond (dropped m o) o from-archive
+
+first-none : (o : Origin) → from-archive ≡ first 0 o
+unfolding dropped
+first-none from-cache = refl
+first-none (from-frame j) = sym (ap (λ (b : Bool). cond b (from-frame j) from-archive) (le-ltb j 0 (omega arith)))
+first-none from-archive = refl
+
+first-here : (m : ℕ) → from-frame 0 ≡ first (suc m) (from-frame 0)
+unfolding dropped
+first-here m = sym (ap (λ (b : Bool). cond b (from-frame 0) from-archive) (lt-ltb 0 (suc m) (omega arith)))
+
+first-further : (m : ℕ) (o : Origin) → further (first m o) ≡ first (suc m) (further o)
+unfolding further
+first-further m o = go (dropped m o) ∙ ap (λ (b : Bool). cond b (further o) from-archive) (sym (further-dropped m o))
+  where
+    go : (b : Bool) → further (cond b o from-archive) ≡ cond b (further o) from-archive
+    go true = refl
+    go false = refl
+
+pub first-found : (m k n : ℕ) (f newer : ℕ → Bool) → n ≡ m + k → ((j : ℕ) → j < m → newer j ≡ f j) → foundIn m newer ≡ first m (foundIn n f)
+unfolding foundIn
+first-found zero k n f newer e same = first-none (foundIn n f)
+first-found (suc m) k zero f newer e same = absurd (omega arith)
+first-found (suc m) k (suc n) f newer e same =
+    ap₂ (λ (b : Bool) (o : Origin). cond b (from-frame 0) (further o)) (same 0 (omega arith))
+    (first-found m k n (λ j. f (suc j)) (λ j. newer (suc j)) (omega arith) (λ j b. same (suc j) (omega arith)))
+    ∙ go (f 0)
+  where
+    go : (b : Bool) → cond b (from-frame 0) (further (first m (foundIn n (λ j. f (suc j))))) ≡ first (suc m) (cond b (from-frame 0) (further (foundIn n (λ j. f (suc j)))))
+    go true = first-here m
+    go false = first-further m (foundIn n (λ j. f (suc j)))

@@ -222,4 +222,4 @@ module _ (x : Storage) (lines frames pages a : ℕ) (told : a ≡ askedRefusal (
         → Promise store (RESET asked) x (outcome 0) (storageOf s archive (x .memory .pool) groups (x .memory .table) (x .memory .owners) history)
         × ResetTo lines frames pages (x .memory .archive) (x .memory .groups) (x .memory .history) s archive groups history
     reset-begins archive groups history s ea eg eh es =
-        (rw ea (rw eg (rw eh (rw es promised))), record { state = es; archive-is = ea; groups-are = eg; history-is = eh })
+        (rw ea (rw eg (rw eh (rw es promised))), record { state = es; archive-is = ea; groups-is = eg; history-is = eh })

@@ -17,12 +17,12 @@ use Rattle.rules.specs.Call.{Origin}
 use Rattle.rules.specs.Call.Origin.{from-cache, from-frame, from-archive}
 use Rattle.rules.specs.Call.Answer.{outcome}
 use Rattle.rules.specs.Call.Call.{WRITE}
-use Rattle.rules.specs.Seen.{accepted, further}
+use Rattle.rules.specs.Seen.{accepted}
 use Rattle.rules.specs.Figure2.{Figure, versionIn, foundIn, isWritten, mrv, written, figureStep, cmfStep, omfStep, figureSeen}
 use Rattle.rules.specs.Figure3.{WellCache, use-line, cacheStep}
 use Rattle.rules.specs.Promise.{Followed, WellFigure, figureOf, seenOf}
 use Rattle.rules.proofs.Chain.{Placed}
-use Rattle.rules.proofs.Width.{widths, in-line, line-below}
+use Rattle.rules.proofs.Width.{widths, in-line}
 use Rattle.rules.proofs.Line.{length-edit}
 use Rattle.rules.proofs.WellSteps.{write-well}
 use Rattle.rules.proofs.WellCache.{use-well}
@@ -46,8 +46,10 @@ use Rattle.storage.specs.Storage.{Storage, storageOf, settingsIn, length
 use Rattle.storage.specs.Steps.{usedState}
 use Rattle.storage.specs.Admit.{covers}
 use Rattle.storage.proofs.Admitting.{Long, covers-long}
+use Rattle.storage.proofs.Past.{written-long}
 use Rattle.storage.proofs.Figures.{AlikeAt, frames-alike, frame-at, well-figure, step-versions, step-archive}
 use Rattle.storage.proofs.Numbers.{used-number}
+use Rattle.storage.proofs.Rows.{current-twice, current-version, current-found}
 use Rattle.storage.proofs.Reading.{latest-line}
 use Rattle.storage.proofs.Choosing.{Chosen, place, place-inside, after-bit, cmf-frame, most, some-live, asks-table}
 
@@ -62,35 +64,12 @@ or-false : (s : Bool) → (s || false) ≡ s
 or-false true = refl
 or-false false = refl
 
--- what the search finds in CMF itself
-twice : (o : Option Line) (r : Line) → Option·getD o (Option·getD o r) ≡ Option·getD o r
-twice none r = refl
-twice (some y) r = refl
-
-first-twice : (n : ℕ) (row : ℕ → Option Line) (other : Line) → 0 < n → Option·getD (row 0) (versionIn n row other) ≡ versionIn n row other
-unfolding versionIn
-first-twice zero row other h = absurd (omega arith)
-first-twice (suc n) row other h = twice (row 0) (versionIn n (λ j. row (suc j)) other)
-
-first-version : (n : ℕ) (row : ℕ → Option Line) (other y : Line) → 0 < n → row 0 ≡ some y → versionIn n row other ≡ y
-unfolding versionIn
-first-version zero row other y h e = absurd (omega arith)
-first-version (suc n) row other y h e = ap (λ (o : Option Line). Option·getD o (versionIn n (λ j. row (suc j)) other)) e
-
-first-found : (n : ℕ) (f : ℕ → Bool) → 0 < n → f 0 ≡ true → foundIn n f ≡ from-frame 0
-unfolding foundIn
-first-found zero f h e = absurd (omega arith)
-first-found (suc n) f h e = ap (λ (t : Bool). cond t (from-frame 0) (further (foundIn n (λ j. f (suc j))))) e
-
 digits : (m l : ℕ) → m / 8 ≡ l / 8 → m % 8 ≡ l % 8 → m ≡ l
 digits m l d e = omega arith
 
-module _ (x : Storage) (q : WellStore x) (wd a v : ℕ) (p : Placed (settingsIn (x .state)) wd a) (hint page : ℕ) where
+module _ (x : Storage) (q : WellStore x) (wd a v : ℕ) (p : Placed (settingsIn (x .state)) wd a) (b : lineOf a < x .state .lines) (hint page : ℕ) where
   abbrev l : ℕ
   l = lineOf a
-
-  pub b : l < x .state .lines
-  b = line-below p
 
   module _ (c : Chosen x q l b page) where
     abbrev n : ℕ
@@ -125,10 +104,9 @@ module _ (x : Storage) (q : WellStore x) (wd a v : ℕ) (p : Placed (settingsIn 
     page-room = omega (arith, c .below, pool-long)
 
     lengths : lengthsIn (stored .memory) ≡ lengthsIn (x .memory)
-    unfolding withWritten
     lengths =
-        ap₂ (λ (m g : ℕ) . record { archive = length (x .memory .archive); pool = m; groups = g; table = length (set (x .memory .table) (place x q l b) page); owners = length (set (x .memory .owners) page (place x q l b)); history = length (x .memory .history) })
-        (length-written (x .memory .pool) content (128 * page + 16 * (l % 8)) (omega (arith, page-room)) whole) (length-set (x .memory .groups) _ _)
+        ap₂ (λ (m g : ℕ). record { archive = length (x .memory .archive); pool = m; groups = g; table = length (set (x .memory .table) (place x q l b) page); owners = length (set (x .memory .owners) page (place x q l b)); history = length (x .memory .history) })
+        (length-written (x .memory .pool) content (128 * page + 16 * (l % 8)) (omega (arith, page-room)) whole) (written-long w (x .state .tag) l (n - 1))
         ∙ ap₂ (λ (t o : ℕ). record { archive = length (x .memory .archive); pool = length (x .memory .pool); groups = length (x .memory .groups); table = t; owners = o; history = length (x .memory .history) })
         (length-set (x .memory .table) (place x q l b) page) (length-set (x .memory .owners) page (place x q l b))
 
@@ -152,9 +130,10 @@ module _ (x : Storage) (q : WellStore x) (wd a v : ℕ) (p : Placed (settingsIn 
         let omf = q .bits .lent .omf-below in
         let frame : frameAt (x .state .frames) (x .state .omf) i ≡ frameAt (x .state .frames) (x .state .omf) (n - 1) =
         sym (digits-div (frameAt (x .state .frames) (x .state .omf) i) (in-block m d)) ∙ (ap (λ (y : ℕ). y / (x .state .lines / 8)) e ∙ digits-div (frameAt (x .state .frames) (x .state .omf) (n - 1)) (in-block l b))
-        in
-        (sym (index-frame (x .state .frames) (x .state .omf) omf i (omega (arith, most x q l b))) ∙ (ap (indexOf (x .state .frames) (x .state .omf)) frame ∙ index-frame (x .state .frames) (x .state .omf) omf (n - 1) (asks .index-below)),
-        sym (digits-mod (frameAt (x .state .frames) (x .state .omf) i) (in-block m d)) ∙ (ap (λ (y : ℕ). y % (x .state .lines / 8)) e ∙ digits-mod (frameAt (x .state .frames) (x .state .omf) (n - 1)) (in-block l b)))
+        in (
+          sym (index-frame (x .state .frames) (x .state .omf) omf i (omega (arith, most x q l b))) ∙ (ap (indexOf (x .state .frames) (x .state .omf)) frame ∙ index-frame (x .state .frames) (x .state .omf) omf (n - 1) (asks .index-below)),
+          sym (digits-mod (frameAt (x .state .frames) (x .state .omf) i) (in-block m d)) ∙ (ap (λ (y : ℕ). y % (x .state .lines / 8)) e ∙ digits-mod (frameAt (x .state .frames) (x .state .omf) (n - 1)) (in-block l b)),
+        )
 
     spot-needed : (i m : ℕ) → i < n → m < x .state .lines → effective w i m ≡ true → neededAt w (spot i m) ≡ true
     spot-needed i m h d e = effective-needed w i m (q .bits .lent .omf-below) (omega (arith, most x q l b)) (in-block m d) e
@@ -234,7 +213,7 @@ module _ (x : Storage) (q : WellStore x) (wd a v : ℕ) (p : Placed (settingsIn 
         go (yes s) =
             ap (frameIn stored 0) s
             ∙ (own-frame
-            ∙ (ap (λ (y : Line). some (edit wd (offsetOf a) v y)) (sym (first-twice n (λ j. frameIn x j l) (archiveIn x l) (some-live x q l b)))
+            ∙ (ap (λ (y : Line). some (edit wd (offsetOf a) v y)) (sym (current-twice n (λ j. frameIn x j l) (archiveIn x l) (some-live x q l b)))
             ∙ (sym (ap (λ (t : Bool). cond t (some (edit wd (offsetOf a) v (Option·getD (frameIn x 0 l) (latestIn x l)))) (frameIn x 0 l)) (eq-eqb l l refl))
             ∙ ap (λ (y : ℕ). cond (eqb l y) (some (edit wd (offsetOf a) v (Option·getD (frameIn x 0 y) (latestIn x y)))) (frameIn x 0 y)) (sym s))))
         go (no s) =
@@ -254,12 +233,12 @@ module _ (x : Storage) (q : WellStore x) (wd a v : ℕ) (p : Placed (settingsIn 
     -- the most recent version of the line written, and of the others
     own-latest : latestIn stored l ≡ content
     unfolding latestIn usedState
-    own-latest = first-version n (λ j. frameIn stored j l) (archiveIn stored l) content (some-live x q l b) own-frame
+    own-latest = current-version n (λ j. frameIn stored j l) (archiveIn stored l) content (some-live x q l b) own-frame
 
     own-newest : newestFrame stored l ≡ x .state .cmf
     unfolding newestFrame frameNumber usedState isWritten
     own-newest =
-        ap (frameNumber (stored .state)) (first-found n (λ j. isWritten (frameIn stored j l)) (some-live x q l b) (ap isWritten own-frame))
+        ap (frameNumber (stored .state)) (current-found n (λ j. isWritten (frameIn stored j l)) (some-live x q l b) (ap isWritten own-frame))
         ∙ (ap (frameAt (x .state .frames) (x .state .omf)) (none-off (n - 1)) ∙ cmf-frame x q l b)
 
     same-live : liveIn (stored .state) ≡ n

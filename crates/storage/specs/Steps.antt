@@ -1,15 +1,22 @@
 -- The state that each call leaves.
-use Prim.Native.Nat.{ℕ, _+_, _-_, _%_}
+use Prim.Native.Nat.{ℕ, _+_, _-_, _/_, _%_, _<_}
 use mathlib.Core.Path.{_≡_}
 use mathlib.Core.List.{List}
-use lib.ListN.{set}
+use mathlib.Core.Bool.{true, false}
+use lib.ListN.{length, getD, set}
+use Rattle.rules.specs.Line.{Line, edit, lineOf, offsetOf}
+use Rattle.frames.specs.Circle.{frameAt}
 use Rattle.written.specs.Bits.{writtenOf}
-use Rattle.written.specs.Steps.{RolledBack, blanked}
-use Rattle.versions.specs.Steps.{zeroed}
+use Rattle.written.specs.Steps.{RolledBack, withWritten, blanked, cleared, lowered}
+use Rattle.pages.specs.Lines.{withPageLine, AsksBytes}
+use Rattle.pages.specs.Table.{placeAt, neededAt, heldAt}
+use Rattle.versions.specs.declared.Version.{Version}
+use Rattle.versions.specs.Newest.{entryPlace, latestOf, AsksNewest}
+use Rattle.versions.specs.Steps.{zeroed, folded, AsksPut}
 use Rattle.cache.specs.declared.Cache.{Cache}
 use Rattle.cache.specs.Steps.{emptied, placed, forgotten, collected}
 use Rattle.storage.specs.declared.State.{State}
-use Rattle.storage.specs.Storage.{Storage, liveIn, latestIn, newestFrame, WellStore}
+use Rattle.storage.specs.Storage.{Storage, memoryOf, liveIn, writtenIn, latestIn, newestFrame, WellStore}
 
 -- RESET: "one live frame .., cache empty".
 unfoldable pub freshState : (lines frames pages : ℕ) → State
@@ -21,7 +28,7 @@ freshState lines frames pages =
 pub record ResetTo (lines frames pages : ℕ) (archive groups history : List ℕ) (t : State) (archive-after groups-after history-after : List ℕ) : Type 0 where
   pub state : t ≡ freshState lines frames pages
   pub archive-is : archive-after ≡ zeroed lines archive
-  pub groups-are : groups-after ≡ blanked lines frames groups
+  pub groups-is : groups-after ≡ blanked lines frames groups
   pub history-is : history-after ≡ set history 0 65535
 
 -- The state with other registers, tag, hint and cache; the settings stay.
@@ -59,6 +66,13 @@ unfoldable pub advancedState : State → (k : ℕ) → State
 advancedState s k =
     stateWith s (s .cmf) ((s .omf + k) % s .frames) (s .tag) (s .hint) (collected (s .cache) (s .omf) (s .frames) k)
 
+-- What it leaves in all: the state, the archive with the versions of the k oldest frames, and the groups and the history that go with it.
+pub record AdvancedTo (s : State) (archive pool groups table history : List ℕ) (k : ℕ) (t : State) (archive-after groups-after history-after : List ℕ) : Type 0 where
+  pub state : t ≡ advancedState s k
+  pub archive-is : archive-after ≡ folded (writtenOf (s .lines) (s .frames) (s .omf) groups history) (s .pages) k pool table (s .lines) archive
+  pub groups-is : groups-after ≡ cleared (s .lines) (s .frames) (s .omf) k groups
+  pub history-is : history-after ≡ lowered k history
+
 -- READ and WRITE: the cache after a use, and after a WRITE the hint for the next page.
 unfoldable pub usedState : State → (hint : ℕ) → Cache → State
 usedState s hint cache = stateWith s (s .cmf) (s .omf) (s .tag) hint cache
@@ -71,3 +85,48 @@ readState x l = usedState (x .state) (x .state .hint) (placed (x .state .cache) 
 -- On storage that CHECK passes.
 abbrev pub ReadTo : Storage → (line : ℕ) → State → Type 0
 ReadTo x l t = WellStore x → t ≡ readState x l
+
+-- WRITE: the line's bytes after it. "its most recent version is copied there first".
+unfoldable pub contentAfter : Storage → (width address value : ℕ) → Line
+contentAfter x w a v = edit w (offsetOf a) v (latestIn x (lineOf a))
+
+-- Where the table has the page of the line's block in CMF.
+abbrev pub currentPlace : Storage → (line : ℕ) → ℕ
+currentPlace x l = placeAt (writtenIn x) (frameAt (x .state .frames) (x .state .omf) (liveIn (x .state) - 1)) (l / 8)
+
+-- What it leaves in all, on storage that CHECK passes. The choice of page is free: it is the place's own where that is needed already,
+-- and else one that is not held. The next search for a page starts behind it.
+pub record WroteTo (x : Storage) (width address value : ℕ) (t : Storage) : Type 0 where
+  pub page : ℕ
+  pub page-below : page < x .state .pages
+  pub page-own : neededAt (writtenIn x) (currentPlace x (lineOf address)) ≡ true → getD (x .memory .table) (currentPlace x (lineOf address)) 0 ≡ page
+  pub page-free : neededAt (writtenIn x) (currentPlace x (lineOf address)) ≡ false → heldAt (writtenIn x) (x .memory .table) (x .memory .owners) page ≡ false
+  pub state : t .state ≡ usedState (x .state) (page + 1) (placed (x .state .cache) (lineOf address) (x .state .cmf) (contentAfter x width address value))
+  pub memory :
+      t .memory
+      ≡ memoryOf (x .memory .archive) (withPageLine (x .memory .pool) page (lineOf address % 8) (contentAfter x width address value))
+      (withWritten (writtenIn x) (x .state .tag) (lineOf address) (liveIn (x .state) - 1)) (set (x .memory .table) (currentPlace x (lineOf address)) page)
+      (set (x .memory .owners) page (currentPlace x (lineOf address))) (x .memory .history)
+
+-- What is left once a page is found, on any storage: the version is put in the page.
+pub record Put (x : Storage) (width address value live page : ℕ) (t : Storage) : Type 0 where
+  pub content : Line
+  pub content-is :
+      content
+      ≡ edit width (offsetOf address) value
+      (latestOf (x .state .cache) (writtenIn x) (x .state .pages) live (x .memory .archive) (x .memory .pool) (x .memory .table) (lineOf address) .content)
+  pub content-long : length content ≡ 16
+  pub state : t .state ≡ usedState (x .state) (page + 1) (placed (x .state .cache) (lineOf address) (x .state .cmf) content)
+  pub memory :
+      t .memory
+      ≡ memoryOf (x .memory .archive) (withPageLine (x .memory .pool) page (lineOf address % 8) content)
+      (withWritten (writtenIn x) (x .state .tag % 256) (lineOf address) (live - 1))
+      (set (x .memory .table) (entryPlace (x .state .lines) (frameAt (x .state .frames) (x .state .omf) (live - 1)) (lineOf address)) page)
+      (set (x .memory .owners) page (entryPlace (x .state .lines) (frameAt (x .state .frames) (x .state .omf) (live - 1)) (lineOf address))) (x .memory .history)
+
+pub record AsksWrite (x : Storage) (width address live page : ℕ) : Type 0 where
+  pub newest : AsksNewest (writtenIn x) (x .state .pages) live (lineOf address) (x .memory .archive) (x .memory .pool) (x .memory .table)
+  pub put :
+      AsksPut (writtenIn x) (x .state .pages) (x .state .tag % 256) (lineOf address) (live - 1) page (x .memory .pool) (x .memory .table) (x .memory .owners)
+  pub bytes : AsksBytes width (offsetOf address)
+  pub cmf-below : x .state .cmf < x .state .frames

@@ -1,5 +1,6 @@
 // The store: every call of document 01, in memory that the caller lends.
 use cache::Cache;
+use frames::Found;
 pub use storage::State;
 pub use versions::Origin;
 use versions::Spot;
@@ -7,11 +8,11 @@ ghost use mathlib.Core.Path.{_≡_};
 ghost use Prim.Native.Nat.{_/_};
 ghost use Rattle.rules.specs.Sizing.{settingsOf};
 ghost use Rattle.rules.specs.Call.Answer.{outcome, reading, lending, counting};
-ghost use Rattle.rules.specs.Call.Call.{RESET, READ, LINE, LINE-REFUSAL, MARK, ROLLBACK, COUNTS};
+ghost use Rattle.rules.specs.Call.Call.{RESET, WRITE, READ, LINE, LINE-REFUSAL, MARK, ROLLBACK, ADVANCE, COUNTS};
 ghost use Rattle.rules.specs.Promise.{Promise};
-ghost use Rattle.storage.specs.Storage.{storageOf, store};
+ghost use Rattle.storage.specs.Storage.{storageOf, WellStore, store};
 ghost use Rattle.versions.specs.Newest.{originOf};
-ghost use Rattle.storage.specs.Steps.{freshState, stateWith, markedState, ResetTo, RolledTo, ReadTo};
+ghost use Rattle.storage.specs.Steps.{freshState, stateWith, markedState, ResetTo, RolledTo, AdvancedTo, ReadTo, WroteTo, Put, AsksWrite};
 
 // LINE's companion: the refusal of `line` on the same arguments, or 0.
 pub fn line_refusal(
@@ -187,6 +188,176 @@ pub fn rollback(
     Outcome {
         state: state_with(state, cmf, state.omf, tag, state.hint, cache),
         refusal: 0,
+    }
+}
+
+// ADVANCE: folds the k oldest frames into the archive and frees them.
+pub fn advance(
+    state: State,
+    archive: &mut [u8],
+    pool: &[u8],
+    groups: &mut [u32],
+    table: &[u16],
+    owners: &[u32],
+    history: &mut [u16],
+    k: u32,
+) -> Outcome
+    ensures { λ r. ⌜ (Promise store (ADVANCE k)
+        (storageOf state (now (archive .entry)) (now (pool .entry)) (now (groups .entry)) (now (table .entry)) (now (owners .entry)) (now (history .entry)))
+        (outcome (r .refusal))
+        (storageOf (r .state) (now (archive .exit)) (now (pool .entry)) (now (groups .exit)) (now (table .entry)) (now (owners .entry)) (now (history .exit))))
+        × (r .refusal ≡ 0 → AdvancedTo state (now (archive .entry)) (now (pool .entry)) (now (groups .entry)) (now (table .entry)) (now (history .entry)) k (r .state) (now (archive .exit)) (now (groups .exit)) (now (history .exit))) ⌝ }
+{
+    let lengths = storage::measure(archive, pool, groups, table, owners, history);
+    let refusal = storage::admit_frames(state, lengths, k);
+    if refusal != 0 {
+        return Outcome { state, refusal };
+    }
+    versions::fold(
+        archive,
+        pool,
+        groups,
+        table,
+        history,
+        state.lines,
+        state.frames,
+        state.omf,
+        state.pages,
+        k,
+    );
+    written::advance(
+        groups,
+        history,
+        state.lines,
+        state.frames,
+        state.omf,
+        k as u16,
+    );
+    let held = state.cache;
+    let omf = (state.omf + k) % state.frames;
+    let cache = cache::collect(held, state.omf, state.frames, k);
+    Outcome {
+        state: state_with(state, state.cmf, omf, state.tag, state.hint, cache),
+        refusal: 0,
+    }
+}
+
+// Writes a value to the most recent version of its line and puts the line in a page of CMF and in the cache; the next search for a page
+// starts behind this one.
+fn put_value(
+    state: State,
+    archive: &[u8],
+    pool: &mut [u8],
+    groups: &mut [u32],
+    table: &mut [u16],
+    owners: &mut [u32],
+    history: &[u16],
+    width: u32,
+    address: u32,
+    value: u32,
+    live: u32,
+    page: u32,
+) -> State
+    requires { ⌜ AsksWrite (storageOf state (now archive) (now pool) (now groups) (now table) (now owners) (now history)) width address live page ⌝ }
+    ensures { λ r. ⌜ Put (storageOf state (now (archive .entry)) (now (pool .entry)) (now (groups .entry)) (now (table .entry)) (now (owners .entry)) (now (history .entry))) width address value live page
+        (storageOf r (now (archive .entry)) (now (pool .exit)) (now (groups .exit)) (now (table .exit)) (now (owners .exit)) (now (history .entry))) ⌝ }
+{
+    let line = address / 16;
+    let held = state.cache;
+    let latest = versions::latest(
+        held,
+        archive,
+        pool,
+        groups,
+        table,
+        history,
+        state.lines,
+        state.frames,
+        state.omf,
+        state.pages,
+        live,
+        line,
+    );
+    let before = latest.content;
+    let content = pages::lines::edited(before, width, address % 16, value);
+    versions::put(
+        pool,
+        groups,
+        table,
+        owners,
+        history,
+        state.lines,
+        state.frames,
+        state.omf,
+        state.tag % 256,
+        state.pages,
+        line,
+        live - 1,
+        page,
+        content,
+    );
+    let cache = cache::place(held, line, state.cmf as u16, content);
+    state_with(state, state.cmf, state.omf, state.tag, page + 1, cache)
+}
+
+// WRITE: to the line's page in CMF, which is the one it has or, if none of its block is needed yet, one that is given out.
+pub fn write(
+    state: State,
+    archive: &[u8],
+    pool: &mut [u8],
+    groups: &mut [u32],
+    table: &mut [u16],
+    owners: &mut [u32],
+    history: &[u16],
+    width: u32,
+    address: u32,
+    value: u32,
+) -> Outcome
+    ensures { λ r. ⌜ (Promise store (WRITE width address value)
+        (storageOf state (now (archive .entry)) (now (pool .entry)) (now (groups .entry)) (now (table .entry)) (now (owners .entry)) (now (history .entry)))
+        (outcome (r .refusal))
+        (storageOf (r .state) (now (archive .entry)) (now (pool .exit)) (now (groups .exit)) (now (table .exit)) (now (owners .exit)) (now (history .entry))))
+        × (r .refusal ≡ 0 → WellStore (storageOf state (now (archive .entry)) (now (pool .entry)) (now (groups .entry)) (now (table .entry)) (now (owners .entry)) (now (history .entry)))
+        → WroteTo (storageOf state (now (archive .entry)) (now (pool .entry)) (now (groups .entry)) (now (table .entry)) (now (owners .entry)) (now (history .entry))) width address value
+        (storageOf (r .state) (now (archive .entry)) (now (pool .exit)) (now (groups .exit)) (now (table .exit)) (now (owners .exit)) (now (history .entry)))) ⌝ }
+{
+    let lengths = storage::measure(archive, pool, groups, table, owners, history);
+    let refusal = storage::admit_write(state, lengths, width, address, value);
+    if refusal != 0 {
+        return Outcome { state, refusal };
+    }
+    let live = frames::live(state.cmf, state.omf, state.frames);
+    match versions::page_for(
+        groups,
+        history,
+        table,
+        owners,
+        state.lines,
+        state.frames,
+        state.omf,
+        state.pages,
+        state.hint,
+        state.cmf,
+        address / 16,
+    ) {
+        Found::At(page) => Outcome {
+            state: put_value(
+                state,
+                archive,
+                pool,
+                groups,
+                table,
+                owners,
+                history,
+                width,
+                address,
+                value,
+                live,
+                page,
+            ),
+            refusal: 0,
+        },
+        Found::Nothing => Outcome { state, refusal: 13 },
     }
 }
 

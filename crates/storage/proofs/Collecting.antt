@@ -1,0 +1,321 @@
+-- ADVANCE keeps its promise. Assumes nothing.
+use mathlib.Core.Path.{_≡_, refl, sym, _∙_, ap, ap₂, subst}
+use mathlib.Core.Logic.{_≢_}
+use mathlib.Core.Bool.{Bool, true, cond, _&&_}
+use mathlib.Core.Option.{none, some}
+use mathlib.Core.List.{List}
+use Prim.Native.Nat.{ℕ, _+_, _-_, _*_, _/_, _%_, _≤_, _<_}
+use native.Mathlib.Nat.{mod-lt, mod-add-mod, add-assoc}
+use native.Mathlib.Decide.{decLt}
+use native.Mathlib.Omega.{arith}
+use borrow.Author.Tests.{lt-ltb, le-ltb}
+use lib.Dec.{ltb}
+use lib.ListN.{length, getD, drop}
+use Rattle.rules.specs.Settings.{Settings, Pieces, elements, enough}
+use Rattle.rules.specs.Line.{Line, zeros}
+use Rattle.rules.specs.Call.{Origin, refused}
+use Rattle.rules.specs.Call.Origin.{from-cache, from-frame, from-archive}
+use Rattle.rules.specs.Call.Answer.{outcome}
+use Rattle.rules.specs.Call.Call.{ADVANCE}
+use Rattle.rules.specs.Seen.{accepted, dropped, needs}
+use Rattle.rules.specs.Refusal.{markedRefusal, stateRefusal, refusal, noPage}
+use Rattle.rules.specs.Figure2.{figureStep, cmfStep, omfStep, omrv, versionIn, foundIn, isWritten}
+use Rattle.rules.specs.Figure3.{WellCache, cacheStep}
+use Rattle.rules.specs.Promise.{Promise, Followed, factsOf, target, WellFigure, figureOf}
+use Rattle.rules.proofs.Settings.{Good, within-good}
+use Rattle.rules.proofs.Promise.{Fits, fits-facts, facts-fit}
+use Rattle.rules.proofs.WellSteps.{advance-well}
+use Rattle.rules.proofs.Circle.{live-advance, live-at-most}
+use Rattle.rules.proofs.Count.{any-true}
+use Rattle.frames.specs.Circle.{frameAt}
+use Rattle.frames.specs.Search.{greatest}
+use Rattle.frames.specs.declared.Found.{Found}
+use Rattle.frames.specs.declared.Found.the-variants.{At, Nothing}
+use Rattle.frames.proofs.Circle.{index-frame, frame-below}
+use Rattle.frames.proofs.Search.{greatest-found}
+use Rattle.written.specs.Bits.{writtenOf, effective, newestFrom}
+use Rattle.written.specs.Steps.{cleared, lowered}
+use Rattle.written.specs.Well.{WellBits}
+use Rattle.written.proofs.Advancing.{advanced-effective, advanced-well}
+use Rattle.written.proofs.Finding.{versionOf, version-back}
+use Rattle.pages.specs.Lines.{pageLine, archiveLine}
+use Rattle.pages.specs.Table.{placeAt, neededAt}
+use Rattle.pages.proofs.Keeping.{needed-place, place-within, advanced-confirmed}
+use Rattle.cache.specs.Steps.{archive, frameAfter, collected}
+use Rattle.cache.specs.Shown.{shown}
+use Rattle.cache.proofs.Frames.{collected-sized, collected-shown, collected-all}
+use Rattle.cache.specs.declared.Cache.{Cache}
+use Rattle.versions.specs.declared.Spot.the-variants.{Page, Archive}
+use Rattle.versions.specs.Newest.{pageOf, spotOf, contentOf}
+use Rattle.versions.specs.Steps.{folded, AsksFold}
+use Rattle.storage.specs.declared.State.{State}
+use Rattle.storage.specs.Storage.{Storage, storageOf, memoryOf, settingsIn, lengthsIn, pastIn, Recent, Coherent, liveIn, writtenIn, indexBack, frameIn, archiveIn, versionAt, latestIn, frameNumber, newestFrame, WellStore, store}
+use Rattle.storage.specs.Steps.{stateWith, advancedState, AdvancedTo}
+use Rattle.storage.specs.Admit.{admitted, covers}
+use Rattle.storage.proofs.Admitting.{Long, covers-long, room-table}
+use Rattle.storage.proofs.Chains.{FramesRoom, frames-room}
+use Rattle.storage.proofs.Looking.{admittedIn, turned-down, let-through}
+use Rattle.storage.proofs.Figures.{AlikeAt, frames-alike, frame-at, frame-live, archive-past, well-figure, step-versions, step-archive}
+use Rattle.storage.proofs.Past.{cleared-long, cleared-past, lowered-long, lowered-past}
+use Rattle.storage.proofs.Folds.{Folded, lines-folded}
+use Rattle.storage.proofs.Numbers.{below-frame, below-archive}
+use Rattle.storage.proofs.Reading.{version-content}
+use Rattle.storage.proofs.Rows.{Within, found-within, version-same, split-version, first, first-found}
+
+-- What a fold asks, of a state, lent memory and k that are admitted.
+pub fold-asks : (s : Settings) (cmf omf owners k : ℕ) (archive pool groups table history : List ℕ)
+    → FramesRoom s cmf omf (record { archive = length archive; pool = length pool; groups = length groups; table = length table; owners = owners; history = length history }) k
+    → AsksFold (writtenOf (s .lines) (s .frames) omf groups history) (s .pages) k archive pool table
+unfolding elements
+fold-asks s cmf omf owners k archive pool groups table history g =
+    record {
+      asks = room-table s cmf omf (length archive) (length pool) owners groups table history (g .room);
+      k-some = g .k-some;
+      k-below = omega (arith, g .k-low, g .live-some, g .live-most);
+      pages-few = g .room .good .pages-to;
+      archive-long = g .room .long .archive;
+      pool-long = g .room .long .pool;
+    }
+
+-- What it leaves, and that it stays within the lent memory.
+module _ (x : Storage) (k : ℕ) where
+  abbrev pub collected-to : Storage
+  collected-to =
+      storageOf (advancedState (x .state) k)
+      (folded (writtenIn x) (x .state .pages) k (x .memory .pool) (x .memory .table) (x .state .lines) (x .memory .archive)) (x .memory .pool)
+      (cleared (x .state .lines) (x .state .frames) (x .state .omf) k (x .memory .groups)) (x .memory .table) (x .memory .owners)
+      (lowered k (x .memory .history))
+
+  module _ (long : Long (elements (settingsIn (x .state))) (lengthsIn (x .memory))) where
+    lines-in : Folded (writtenIn x) (x .state .pages) k (x .memory .pool) (x .memory .table) (x .memory .archive) (x .state .lines) (collected-to .memory .archive)
+    unfolding elements
+    lines-in = lines-folded (writtenIn x) (x .state .pages) k (x .memory .pool) (x .memory .table) (x .memory .archive) (x .state .lines) (long .pool) (long .archive)
+
+    lengths-kept : lengthsIn (collected-to .memory) ≡ lengthsIn (x .memory)
+    lengths-kept = λ i.
+        record {
+          archive = lines-in .long i;
+          pool = length (x .memory .pool);
+          groups = cleared-long (x .state .lines) (x .state .frames) (x .state .omf) k (x .memory .groups) i;
+          table = length (x .memory .table);
+          owners = length (x .memory .owners);
+          history = lowered-long k (x .memory .history) i;
+        }
+
+    past-kept : pastIn (elements (settingsIn (x .state))) (collected-to .memory) ≡ pastIn (elements (settingsIn (x .state))) (x .memory)
+    unfolding elements
+    past-kept = λ i.
+        memoryOf (lines-in .past (16 * x .state .lines) (omega arith) i) (drop (128 * x .state .pages) (x .memory .pool))
+        (cleared-past (x .state .lines) (x .state .frames) (x .state .omf) k (x .memory .groups) i) (drop (x .state .frames * (x .state .lines / 8)) (x .memory .table))
+        (drop (x .state .pages) (x .memory .owners)) (lowered-past k (x .memory .history) i)
+
+module _ (x : Storage) (q : WellStore x) (k : ℕ) (some-k : 0 < k) (low : k ≤ liveIn (x .state) - 1) where
+  abbrev n : ℕ
+  n = liveIn (x .state)
+
+  abbrev kept : ℕ
+  kept = n - k
+
+  abbrev new : Storage
+  new = collected-to x k
+
+  fits : Fits (settingsIn (x .state)) (x .state .cmf) (x .state .omf)
+  fits = fits-facts (settingsIn (x .state)) (x .state .cmf) (x .state .omf) (q .fits)
+
+  good : Good (settingsIn (x .state))
+  good = within-good (settingsIn (x .state)) (fits .limits)
+
+  most : n ≤ x .state .frames
+  most = live-at-most (x .state .frames) (x .state .cmf) (x .state .omf) (fits .cmf-below) (fits .omf-below)
+
+  below : k < x .state .frames
+  below = omega (arith, most)
+
+  all : n ≡ kept + k
+  all = omega arith
+
+  live : liveIn (new .state) ≡ kept
+  unfolding advancedState
+  live = live-advance (x .state .frames) (x .state .cmf) (x .state .omf) (fits .cmf-below) (fits .omf-below) k low
+
+  long : Long (elements (settingsIn (x .state))) (lengthsIn (x .memory))
+  unfolding covers enough
+  long = covers-long (elements (settingsIn (x .state))) (lengthsIn (x .memory)) (q .long)
+
+  -- ---- frames: those that stay have their index less k
+  index : (j : ℕ) → j < kept → k + indexBack (new .state) j ≡ indexBack (x .state) j
+  index j h = ap (λ (m : ℕ). k + (m - 1 - j)) live ∙ same n low h
+    where
+      same : (n : ℕ) → k ≤ n - 1 → j < n - k → k + (n - k - 1 - j) ≡ n - 1 - j
+      same n low h = omega arith
+
+  frame-on : (j : ℕ) → j < kept → frameAt (x .state .frames) (new .state .omf) (indexBack (new .state) j) ≡ frameAt (x .state .frames) (x .state .omf) (indexBack (x .state) j)
+  unfolding frameAt advancedState
+  frame-on j h =
+      mod-add-mod (x .state .omf + k) (x .state .frames) (indexBack (new .state) j)
+      ∙ ap (λ (m : ℕ). m % x .state .frames) (add-assoc (x .state .omf) k (indexBack (new .state) j) ∙ ap (λ (m : ℕ). x .state .omf + m) (index j h))
+
+  collected-alike : (j l : ℕ) → j < kept → l < x .state .lines → AlikeAt new x (indexBack (new .state) j) (indexBack (x .state) j) l
+  unfolding versionAt advancedState placeAt frameAt
+  collected-alike j l h b =
+      record {
+        bit =
+            advanced-effective (writtenIn x) (q .bits .lent) k below (indexBack (new .state) j) l (omega (arith, index j h, most)) b
+            ∙ (ap (λ (i : ℕ). ltb i (x .state .frames) && effective (writtenIn x) i l) (index j h)
+            ∙ ap (λ (t : Bool). t && effective (writtenIn x) (indexBack (x .state) j) l) (lt-ltb (indexBack (x .state) j) (x .state .frames) (omega (arith, most))));
+        version = λ _. ap (λ (f : ℕ). pageLine (x .memory .pool) (getD (x .memory .table) (f * (x .state .lines / 8) + l / 8) 0) (l % 8)) (frame-on j h);
+      }
+
+  stays : (j l : ℕ) → j < kept → frameIn new j l ≡ frameIn x j l
+  unfolding advancedState
+  stays j l h =
+      frames-alike new x j j l refl (λ _. omega arith) (λ _. omega (arith, live)) (λ _ d b. collected-alike j l h b)
+
+  collected-frame : (j l : ℕ) → frameIn new j l ≡ cond (ltb j kept) (frameIn x j l) none
+  collected-frame j l = go (decLt j kept)
+    where
+      go : Dec (j < kept) → frameIn new j l ≡ cond (ltb j kept) (frameIn x j l) none
+      go (yes h) = stays j l h ∙ sym (ap (λ (t : Bool). cond t (frameIn x j l) none) (lt-ltb j kept h))
+      go (no h) = frame-live new j l (omega (arith, live)) ∙ sym (ap (λ (t : Bool). cond t (frameIn x j l) none) (le-ltb j kept (omega arith)))
+
+  -- ---- archive
+  module _ (l : ℕ) (b : l < x .state .lines) where
+    abbrev row : ℕ → Bool
+    row i = effective (writtenIn x) i l
+
+    oldest : (j : ℕ) → j < k → frameIn x (kept + j) l ≡ cond (row (k - 1 - j)) (some (versionAt x (k - 1 - j) l)) none
+    oldest j h =
+        frame-at x (kept + j) l (omega arith) b
+        ∙ ap (λ (i : ℕ). cond (row i) (some (versionAt x i l)) none) (same n low)
+      where
+        same : (n : ℕ) → k ≤ n - 1 → n - 1 - (n - k + j) ≡ k - 1 - j
+        same n low = omega arith
+
+    archive-folded : archiveIn new l ≡ versionIn k (λ j. frameIn x (kept + j) l) (archiveIn x l)
+    unfolding archiveIn newestFrom advancedState
+    archive-folded =
+        let start : k - 1 + 1 ≡ k = omega arith in
+        ap (λ (t : Bool). cond t (archiveLine (new .memory .archive) l) zeros) (lt-ltb l (x .state .lines) b)
+        ∙ (lines-in x k long .line l b
+        ∙ (ap (λ (m : ℕ). contentOf (x .memory .archive) (x .memory .pool) l (spotOf (x .state .lines) (x .state .frames) (x .state .omf) (x .state .pages) (x .memory .table) l (greatest m row))) start
+        ∙ (version-content x q l b (greatest k row) (λ i e. let g = greatest-found k row i e in (omega (arith, g .below), g .passes))
+        ∙ (sym (version-back k row (λ i. versionAt x i l) (archiveIn x l))
+        ∙ sym (version-same k (λ j. frameIn x (kept + j) l) (λ j. cond (row (k - 1 - j)) (some (versionAt x (k - 1 - j) l)) none) (archiveIn x l) oldest)))))
+
+  next-well : WellFigure (settingsIn (x .state)) (figureStep (ADVANCE k) (figureOf store x))
+  unfolding figureOf
+  next-well = advance-well (settingsIn (x .state)) (figureOf store x) (well-figure x q) k low
+
+  collected-archive : (l : ℕ) → archiveIn new l ≡ omrv (figureOf store x) k l
+  unfolding omrv figureOf figureStep advancedState
+  collected-archive l = go (decLt l (x .state .lines))
+    where
+      go : Dec (l < x .state .lines) → archiveIn new l ≡ versionIn k (λ j. frameIn x (kept + j) l) (archiveIn x l)
+      go (yes b) = archive-folded l b
+      go (no b) = archive-past new l (omega arith) ∙ sym (next-well .archive-lines l (omega arith))
+
+  collected-figure : figureOf store new ≡ figureStep (ADVANCE k) (figureOf store x)
+  unfolding figureOf figureStep
+  collected-figure = λ i. record { live = live i; frame = λ j l. collected-frame j l i; archive = λ l. collected-archive l i }
+
+  -- ---- cache: every line is found as before, and in the archive where its frame is collected
+  collected-latest : (l : ℕ) → latestIn new l ≡ latestIn x l
+  unfolding latestIn omrv figureOf
+  collected-latest l =
+      ap₂ (λ (m : ℕ) (v : Line). versionIn m (λ j. frameIn new j l) v) live (collected-archive l)
+      ∙ split-version kept k n (λ j. frameIn x j l) (λ j. frameIn new j l) (archiveIn x l) all (λ j h. stays j l h)
+
+  archive-stays : frameAfter (x .state .omf) (x .state .frames) k archive ≡ archive
+  unfolding frameAfter
+  archive-stays = ap (λ (t : Bool). cond t archive archive) (below-archive (x .state .frames) (x .state .omf) (good .frames-to) (fits .omf-below) k)
+
+  frame-collected : (o : Origin) → Within n o → frameAfter (x .state .omf) (x .state .frames) k (frameNumber (x .state) o) ≡ frameNumber (new .state) (first kept o)
+  unfolding frameAfter frameNumber dropped advancedState
+  frame-collected from-cache h = archive-stays
+  frame-collected (from-frame j) h =
+      ap (λ (t : Bool). cond t archive (frameAt (x .state .frames) (x .state .omf) (n - 1 - j)))
+      (below-frame (x .state .frames) (x .state .omf) (good .frames-to) (fits .omf-below) k (n - 1 - j) (omega (arith, most)))
+      ∙ go (decLt j kept)
+    where
+      go : Dec (j < kept) → cond (ltb (n - 1 - j) k) archive (frameAt (x .state .frames) (x .state .omf) (n - 1 - j)) ≡ frameNumber (new .state) (cond (ltb j kept) (from-frame j) from-archive)
+      go (yes b) =
+          ap (λ (t : Bool). cond t archive (frameAt (x .state .frames) (x .state .omf) (n - 1 - j))) (le-ltb (n - 1 - j) k (omega arith))
+          ∙ (sym (frame-on j b) ∙ sym (ap (λ (t : Bool). frameNumber (new .state) (cond t (from-frame j) from-archive)) (lt-ltb j kept b)))
+      go (no b) =
+          ap (λ (t : Bool). cond t archive (frameAt (x .state .frames) (x .state .omf) (n - 1 - j))) (lt-ltb (n - 1 - j) k (omega arith))
+          ∙ sym (ap (λ (t : Bool). frameNumber (new .state) (cond t (from-frame j) from-archive)) (le-ltb j kept (omega arith)))
+  frame-collected from-archive h = archive-stays
+
+  collected-newest : (l : ℕ) → frameAfter (x .state .omf) (x .state .frames) k (newestFrame x l) ≡ newestFrame new l
+  unfolding newestFrame
+  collected-newest l =
+      frame-collected (foundIn n (λ j. isWritten (frameIn x j l))) (found-within n (λ j. isWritten (frameIn x j l)))
+      ∙ (ap (frameNumber (new .state)) (sym (first-found kept k n (λ j. isWritten (frameIn x j l)) (λ j. isWritten (frameIn new j l)) all (λ j h. ap isWritten (stays j l h))))
+      ∙ ap (λ (m : ℕ). frameNumber (new .state) (foundIn m (λ j. isWritten (frameIn new j l)))) (sym live))
+
+  collected-coherent : Coherent new
+  unfolding advancedState
+  collected-coherent =
+      collected-all (x .state .cache) (q .sized) (x .state .omf) (x .state .frames) k (Recent x) (Recent new) (q .coherent)
+      (λ l g b c. (c .0 ∙ sym (collected-latest l), ap (frameAfter (x .state .omf) (x .state .frames) k) (c .1) ∙ collected-newest l))
+
+  collected-cache : shown (new .state .cache) ≡ shown (x .state .cache)
+  unfolding advancedState
+  collected-cache = collected-shown (x .state .cache) (q .sized) (x .state .omf) (x .state .frames) k
+
+  collected-store : WellStore new
+  unfolding advancedState frameAt
+  collected-store =
+      record {
+        fits = facts-fit (settingsIn (x .state)) (x .state .cmf) _ (record { limits = fits .limits; cmf-below = fits .cmf-below; omf-below = mod-lt _ (omega (arith, below)) });
+        long = subst (λ (p : Pieces). enough (settingsIn (x .state)) p ≡ true) (sym (lengths-kept x k long)) (q .long);
+        bits = subst (λ (m : ℕ). WellBits (writtenIn new) (x .state .tag) m) (sym live) (advanced-well (writtenIn x) (q .bits .lent) k below (x .state .tag) n (q .bits));
+        pages = advanced-confirmed (writtenIn x) (q .bits .lent) k below (x .state .pages) (λ y. getD (x .memory .table) y 0) (λ p. getD (x .memory .owners) p 0) (q .pages);
+        sized = collected-sized (x .state .cache) (q .sized) (x .state .omf) (x .state .frames) k;
+        version-line = step-versions new _ _ collected-figure next-well;
+        archive-line = step-archive new _ _ collected-figure next-well;
+        entries = subst (WellCache (settingsIn (x .state))) (sym collected-cache) (q .entries);
+        coherent = collected-coherent;
+      }
+
+  pub advanced-followed : Followed store (ADVANCE k) x (outcome 0) new
+  unfolding accepted cmfStep omfStep cacheStep advancedState
+  advanced-followed =
+      record {
+        answer = refl;
+        well = collected-store;
+        settings = refl;
+        cmf = refl;
+        omf = refl;
+        figure = collected-figure;
+        cache = collected-cache;
+      }
+
+-- The promise: refused, and accepted.
+module _ (x : Storage) (k a : ℕ) (told : a ≡ admittedIn x (markedRefusal (liveIn (x .state)) k)) where
+  pub advance-refused : a ≢ 0 → Promise store (ADVANCE k) x (outcome a) x
+  unfolding refusal stateRefusal factsOf admitted refused noPage
+  advance-refused z = turned-down x (ADVANCE k) a told z
+
+  promised : a ≡ 0 → Promise store (ADVANCE k) x (outcome 0) (collected-to x k)
+  unfolding refusal stateRefusal factsOf admitted noPage target
+  promised z =
+      let g = frames-room (settingsIn (x .state)) (x .state .cmf) (x .state .omf) (lengthsIn (x .memory)) a k told z in
+      let-through x (ADVANCE k) a told z refl (λ q. advanced-followed x q k (g .k-some) (g .k-low)) (lengths-kept x k (g .room .long)) (past-kept x k (g .room .long))
+
+  -- in the form in which the code has the lists and the state
+  pub advance-collects : a ≡ 0 → (archive groups history : List ℕ) → archive ≡ collected-to x k .memory .archive
+      → groups ≡ collected-to x k .memory .groups → history ≡ collected-to x k .memory .history
+      → (held : Cache) (s : State) → held ≡ collected (x .state .cache) (x .state .omf) (x .state .frames) k
+      → s ≡ stateWith (x .state) (x .state .cmf) ((x .state .omf + k) % x .state .frames) (x .state .tag) (x .state .hint) held
+      → Promise store (ADVANCE k) x (outcome 0) (storageOf s archive (x .memory .pool) groups (x .memory .table) (x .memory .owners) history)
+      × AdvancedTo (x .state) (x .memory .archive) (x .memory .pool) (x .memory .groups) (x .memory .table) (x .memory .history) k s archive groups history
+  unfolding advancedState
+  advance-collects z archive groups history ea eg eh held s cached e =
+      let same : s ≡ advancedState (x .state) k =
+      e ∙ ap (λ (c : Cache). stateWith (x .state) (x .state .cmf) ((x .state .omf + k) % x .state .frames) (x .state .tag) (x .state .hint) c) cached
+      in (
+        subst (Promise store (ADVANCE k) x (outcome 0))
+            (λ i. storageOf (sym same i) (sym ea i) (x .memory .pool) (sym eg i) (x .memory .table) (x .memory .owners) (sym eh i)) (promised z),
+        record { state = same; archive-is = ea; groups-is = eg; history-is = eh },
+      )

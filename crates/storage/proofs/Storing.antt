@@ -1,0 +1,206 @@
+-- WRITE keeps its promise, in the form in which the code has what is left. Assumes nothing.
+use mathlib.Core.Path.{_≡_, refl, sym, _∙_, ap, ap₂, subst}
+use mathlib.Core.Logic.{_≢_}
+use mathlib.Core.Bool.{Bool, true, false, not, _&&_}
+use mathlib.Core.List.{List}
+use Prim.Native.Nat.{ℕ, _+_, _-_, _*_, _/_, _%_, _≤_, _<_}
+use native.Mathlib.Omega.{arith}
+use lib.ListN.{length, drop, set, length-set}
+use Rattle.rules.specs.Settings.{Settings, Pieces, elements}
+use Rattle.rules.specs.Line.{Line, lineOf, offsetOf, edit}
+use Rattle.rules.specs.Call.{refused}
+use Rattle.rules.specs.Call.Answer.{outcome}
+use Rattle.rules.specs.Call.Call.{WRITE}
+use Rattle.rules.specs.Refusal.{unless, writeRefusal, stateRefusal, refusal, noPage}
+use Rattle.rules.specs.Promise.{Promise, Followed, factsOf, seenOf, target}
+use Rattle.rules.proofs.Promise.{refuse, accept}
+use Rattle.rules.proofs.Chain.{Placed}
+use Rattle.rules.proofs.Width.{line-below}
+use Rattle.frames.specs.Circle.{frameAt}
+use Rattle.frames.specs.declared.Found.{Found}
+use Rattle.frames.specs.declared.Found.the-variants.{At, Nothing}
+use Rattle.frames.proofs.Circle.{frame-below}
+use Rattle.frames.proofs.Lists.{drop-set}
+use Rattle.frames.proofs.Lines.{length-written, past-written}
+use Rattle.written.specs.Bits.{Lent}
+use Rattle.written.specs.Steps.{withWritten}
+use Rattle.pages.specs.Lines.{withPageLine}
+use Rattle.pages.specs.Table.{placeAt}
+use Rattle.cache.specs.declared.Cache.{Cache}
+use Rattle.cache.specs.Steps.{placed}
+use Rattle.versions.specs.declared.Version.{Version}
+use Rattle.versions.specs.Newest.{entryPlace, latestOf}
+use Rattle.versions.specs.Steps.{pageFor}
+use Rattle.versions.proofs.Finding.{entry-within}
+use Rattle.storage.specs.declared.State.{State}
+use Rattle.storage.specs.Storage.{Storage, storageOf, memoryOf, settingsIn, lengthsIn, pastIn, liveIn, writtenIn, latestIn, WellStore, store}
+use Rattle.storage.specs.Steps.{stateWith, usedState, contentAfter, currentPlace, WroteTo, Put, AsksWrite}
+use Rattle.storage.specs.Admit.{admitted}
+use Rattle.storage.proofs.Admitting.{Room, room-lent, room-newest}
+use Rattle.storage.proofs.Chains.{write-stands, write-decides, write-room}
+use Rattle.storage.proofs.Looking.{admittedIn, turned-down}
+use Rattle.storage.proofs.Past.{written-long, written-past}
+use Rattle.storage.proofs.Reading.{latest-told}
+use Rattle.storage.proofs.Choosing.{Chosen, page-below, chosen, none-chosen}
+use Rattle.storage.proofs.Writing.{stored-followed}
+
+-- What is left, in the form in which the code has it.
+pub put-told : (x : Storage) (wd a v live page : ℕ) (latest : Version)
+    → latest ≡ latestOf (x .state .cache) (writtenIn x) (x .state .pages) live (x .memory .archive) (x .memory .pool) (x .memory .table) (lineOf a)
+    → (content : Line) → content ≡ edit wd (offsetOf a) v (latest .content) → length content ≡ 16 → (pool groups table owners : List ℕ)
+    → pool ≡ withPageLine (x .memory .pool) page (lineOf a % 8) content → groups ≡ withWritten (writtenIn x) (x .state .tag % 256) (lineOf a) (live - 1)
+    → table ≡ set (x .memory .table) (entryPlace (x .state .lines) (frameAt (x .state .frames) (x .state .omf) (live - 1)) (lineOf a)) page
+    → owners ≡ set (x .memory .owners) page (entryPlace (x .state .lines) (frameAt (x .state .frames) (x .state .omf) (live - 1)) (lineOf a)) → (held : Cache)
+    → held ≡ placed (x .state .cache) (lineOf a) (x .state .cmf) content → (s : State)
+    → s ≡ stateWith (x .state) (x .state .cmf) (x .state .omf) (x .state .tag) (page + 1) held
+    → Put x wd a v live page (storageOf s (x .memory .archive) pool groups table owners (x .memory .history))
+unfolding usedState
+put-told x wd a v live page latest found content is whole pool groups table owners ep eg et eo held cached s e =
+    record {
+      content = content;
+      content-is = is ∙ ap (λ (y : Version). edit wd (offsetOf a) v (y .content)) found;
+      content-long = whole;
+      state = e ∙ ap (stateWith (x .state) (x .state .cmf) (x .state .omf) (x .state .tag) (page + 1)) cached;
+      memory = λ i. memoryOf (x .memory .archive) (ep i) (eg i) (et i) (eo i) (x .memory .history);
+    }
+
+module _ (x : Storage) (wd a v r : ℕ) (told : r ≡ admittedIn x (writeRefusal (settingsIn (x .state)) wd a v 0)) where
+  abbrev l : ℕ
+  l = lineOf a
+
+  abbrev choice : (hint : ℕ) → Found
+  choice hint = pageFor (writtenIn x) (x .state .pages) hint (x .memory .table) (x .memory .owners) (x .state .cmf) l
+
+  chain : (rest : ℕ) → r ≢ 0 → r ≡ admittedIn x (writeRefusal (settingsIn (x .state)) wd a v rest)
+  chain rest z = write-stands (settingsIn (x .state)) (x .state .cmf) (x .state .omf) (lengthsIn (x .memory)) wd a v r told z rest
+
+  pub write-refused : r ≢ 0 → Promise store (WRITE wd a v) x (outcome r) x
+  unfolding refusal stateRefusal factsOf admitted refused
+  write-refused z = turned-down x (WRITE wd a v) r (chain _ z) z
+
+  module _ (z : r ≡ 0) where
+    decides : (rest : ℕ) → rest ≡ admittedIn x (writeRefusal (settingsIn (x .state)) wd a v rest)
+    decides = write-decides (settingsIn (x .state)) (x .state .cmf) (x .state .omf) (lengthsIn (x .memory)) wd a v r told z
+
+    placed-there : Placed (settingsIn (x .state)) wd a
+    placed-there = write-room (settingsIn (x .state)) (x .state .cmf) (x .state .omf) (lengthsIn (x .memory)) r wd a v told z .1
+
+    below : l < x .state .lines
+    below = line-below placed-there
+
+    room : Room (settingsIn (x .state)) (x .state .cmf) (x .state .omf) (lengthsIn (x .memory))
+    room = write-room (settingsIn (x .state)) (x .state .cmf) (x .state .omf) (lengthsIn (x .memory)) r wd a v told z .0 .room
+
+    -- what the layers ask
+    pub asks-write : (live page : ℕ) → live ≡ liveIn (x .state) → choice (x .state .hint) ≡ At page → AsksWrite x wd a live page
+    unfolding elements
+    asks-write live page e found =
+        let newest = room-newest (settingsIn (x .state)) (x .state .cmf) (x .state .omf) (length (x .memory .owners)) (x .memory .archive) (x .memory .pool) (x .memory .groups) (x .memory .table) (x .memory .history) room live l e below in
+        record {
+          newest = newest;
+          put =
+              record {
+                asks = newest .asks;
+                line-below = below;
+                index-below = omega (arith, newest .live-some, newest .live-within);
+                tag-below = omega arith;
+                pages-few = room .good .pages-to;
+                page-below = page-below (writtenIn x) (x .state .pages) (x .state .hint) (x .memory .table) (x .memory .owners) (x .state .cmf) l page found;
+                pool-long = room .long .pool;
+                owners-long = room .long .owners;
+              };
+          bytes = write-room (settingsIn (x .state)) (x .state .cmf) (x .state .omf) (lengthsIn (x .memory)) r wd a v told z .0 .bytes;
+          cmf-below = room .fits .cmf-below;
+        }
+
+    -- 13
+    pub write-full : choice (x .state .hint) ≡ Nothing → Promise store (WRITE wd a v) x (outcome 13) x
+    unfolding refusal stateRefusal factsOf admitted refused noPage unless
+    write-full e =
+        subst (λ (n : ℕ). Promise store (WRITE wd a v) x (outcome n) x) (sym (decides 13))
+        (refuse store (WRITE wd a v) x true (λ q. sym (none-chosen x q l below (x .state .hint) e)) (λ d. let n : _≡_ {A = ℕ} 13 0 = decides 13 ∙ d in absurd (omega arith)))
+
+    module _ (page : ℕ) (found : choice (x .state .hint) ≡ At page) (live : ℕ) (live-is : live ≡ liveIn (x .state)) (t : Storage) (put : Put x wd a v live page t) where
+      page-few : page < x .state .pages
+      page-few = page-below (writtenIn x) (x .state .pages) (x .state .hint) (x .memory .table) (x .memory .owners) (x .state .cmf) l page found
+
+      -- Inside the lent memory, on any storage.
+      abbrev entry : ℕ
+      entry = entryPlace (x .state .lines) (frameAt (x .state .frames) (x .state .omf) (live - 1)) l
+
+      pool-room : 128 * x .state .pages ≤ length (x .memory .pool)
+      unfolding elements
+      pool-room = room .long .pool
+
+      abbrev at : ℕ
+      at = 128 * page + 16 * (l % 8)
+
+      lengths : lengthsIn (t .memory) ≡ lengthsIn (x .memory)
+      lengths =
+          ap lengthsIn (put .memory)
+          ∙ (λ i.
+          record {
+            archive = length (x .memory .archive);
+            pool = length-written (x .memory .pool) (put .content) at (omega (arith, pool-room, page-few)) (put .content-long) i;
+            groups = written-long (writtenIn x) (x .state .tag % 256) l (live - 1) i;
+            table = length-set (x .memory .table) entry page i;
+            owners = length-set (x .memory .owners) page entry i;
+            history = length (x .memory .history);
+          })
+
+      past : pastIn (elements (settingsIn (x .state))) (t .memory) ≡ pastIn (elements (settingsIn (x .state))) (x .memory)
+      unfolding elements
+      past =
+          ap (pastIn (elements (settingsIn (x .state)))) (put .memory)
+          ∙ (λ i.
+          memoryOf (drop (16 * x .state .lines) (x .memory .archive))
+          (past-written (x .memory .pool) (put .content) at (omega (arith, pool-room, page-few)) (put .content-long) (128 * x .state .pages) (omega (arith, page-few)) i)
+          (written-past (writtenIn x) (x .state .tag % 256) l (live - 1) lent below i)
+          (drop-set (x .memory .table) entry (x .state .frames * (x .state .lines / 8)) page (entry-within (x .state .lines) (x .state .frames) (frameAt (x .state .frames) (x .state .omf) (live - 1)) l (room .good .lines-by) (frame-below (x .state .frames) (x .state .omf) (room .fits .omf-below) (live - 1)) below) i)
+          (drop-set (x .memory .owners) page (x .state .pages) entry page-few i)
+          (drop 256 (x .memory .history)))
+        where
+          lent : Lent (writtenIn x)
+          lent =
+              room-lent (settingsIn (x .state)) (x .state .cmf) (x .state .omf) (length (x .memory .archive)) (length (x .memory .pool)) (length (x .memory .table)) (length (x .memory .owners)) (x .memory .groups) (x .memory .history) room
+
+      -- What it is on well-formed storage.
+      module _ (q : WellStore x) where
+        abbrev c : Chosen x q l below page
+        c = chosen x q l below (x .state .hint) page found
+
+        same-content : put .content ≡ contentAfter x wd a v
+        unfolding contentAfter
+        same-content =
+            put .content-is
+            ∙ (ap (λ (m : ℕ). edit wd (offsetOf a) v (latestOf (x .state .cache) (writtenIn x) (x .state .pages) m (x .memory .archive) (x .memory .pool) (x .memory .table) l .content)) live-is
+            ∙ ap (edit wd (offsetOf a) v) (latest-told x q l below _ refl .0))
+
+        same-state : t .state ≡ usedState (x .state) (page + 1) (placed (x .state .cache) l (x .state .cmf) (contentAfter x wd a v))
+        same-state = put .state ∙ ap (λ (y : Line). usedState (x .state) (page + 1) (placed (x .state .cache) l (x .state .cmf) y)) same-content
+
+        same-memory : t .memory
+            ≡ memoryOf (x .memory .archive) (withPageLine (x .memory .pool) page (l % 8) (contentAfter x wd a v)) (withWritten (writtenIn x) (x .state .tag) l (liveIn (x .state) - 1))
+            (set (x .memory .table) (currentPlace x l) page) (set (x .memory .owners) page (currentPlace x l)) (x .memory .history)
+        unfolding placeAt
+        same-memory =
+            let tag : x .state .tag % 256 ≡ x .state .tag = omega (arith, q .bits .tag-below) in
+            put .memory
+            ∙ (λ i.
+            memoryOf (x .memory .archive) (withPageLine (x .memory .pool) page (l % 8) (same-content i)) (withWritten (writtenIn x) (tag i) l (live-is i - 1))
+            (set (x .memory .table) (entryPlace (x .state .lines) (frameAt (x .state .frames) (x .state .omf) (live-is i - 1)) l) page)
+            (set (x .memory .owners) page (entryPlace (x .state .lines) (frameAt (x .state .frames) (x .state .omf) (live-is i - 1)) l)) (x .memory .history))
+
+        pub write-left : WroteTo x wd a v t
+        write-left = record { page = page; page-below = page-few; page-own = c .own; page-free = c .unheld; state = same-state; memory = same-memory }
+
+        followed : Followed store (WRITE wd a v) x (outcome 0) t
+        unfolding contentAfter
+        followed =
+            subst (λ (y : Storage). Followed store (WRITE wd a v) x (outcome 0) y) (sym (λ i. record { state = same-state i; memory = same-memory i }))
+            (stored-followed x q wd a v placed-there below (page + 1) page c)
+
+      pub write-done : Promise store (WRITE wd a v) x (outcome 0) t
+      unfolding refusal stateRefusal factsOf admitted noPage unless target
+      write-done =
+          accept store (WRITE wd a v) x false (λ q. sym (c q .free)) (sym (decides 0)) refl followed lengths past

@@ -1,0 +1,107 @@
+-- `store::write` meets its contract. Assumes nothing.
+use mathlib.Core.Path.{sym, _∙_}
+use borrow.Author.Needs.{needs}
+use native.Mathlib.Omega.{arith}
+use Rattle.storage.proofs.Admitting.{room-turn, room-page}
+use Rattle.storage.proofs.Chains.{measured, write-room}
+use Rattle.storage.proofs.Storing.{write-refused, asks-write, write-full, write-done, write-left}
+use Rattle.store.proofs.write.Statement.{statement}
+use Rattle.store.proofs.write.Tie as tie
+
+measure-requires : tie.Need-measure-requires
+measure-requires c κs = search needs
+
+admit-write-requires : tie.Need-admit-write-requires
+admit-write-requires c κs = search needs
+
+same-length : tie.Need-same-length
+same-length c = search needs
+
+same-length-2 : tie.Need-same-length-2
+same-length-2 c = search needs
+
+same-length-3 : tie.Need-same-length-3
+same-length-3 c = search needs
+
+same-length-4 : tie.Need-same-length-4
+same-length-4 c = search needs
+
+returns : tie.Need-returns
+returns c = (write-refused _ _ _ _ _ (measured _ _ _ _ _ _ _ (c .before .before .measure .ensures) (c .before .admit-write .ensures)) (c .if1 .taken), λ z. absurd (c .if1 .taken z))
+
+live-requires : tie.Need-live-requires
+live-requires c κs = room-turn _ _ _ _ (write-room _ _ _ _ _ _ _ _ (measured _ _ _ _ _ _ _ (c .before .before .measure .ensures) (c .before .admit-write .ensures)) (c .if1 .left) .0 .room)
+
+page-for-requires : tie.Need-page-for-requires
+page-for-requires c κs =
+    let g = write-room _ _ _ _ _ _ _ _ (measured _ _ _ _ _ _ _ (c .before .before .before .before .before .before .measure .ensures) (c .before .before .before .before .before .admit-write .ensures)) (c .before .before .before .before .if1 .left) .0 in
+    room-page _ _ _ _ _ _ _ _ _ (g .room) _ (g .line-below)
+
+enum-known-page : tie.Need-enum-known-page
+enum-known-page c = search needs
+
+put-value-requires : tie.Need-put-value-requires
+put-value-requires c κs = asks-write _ _ _ _ _ (measured _ _ _ _ _ _ _ (c .before .before .before .before .before .before .before .before .before .before .before .before .before .before .measure .ensures) (c .before .before .before .before .before .before .before .before .before .before .before .before .before .admit-write .ensures)) (c .before .before .before .before .before .before .before .before .before .before .before .before .if1 .left) _ _ (c .before .before .before .before .before .before .before .before .before .before .before .live .ensures) (sym (c .before .before .before .before .before .before .before .page-for .ensures) ∙ c .before .before .before .before .before .page .given .1)
+
+enum-told : tie.Need-enum-told
+enum-told c = search needs
+
+same-length-5 : tie.Need-same-length-5
+same-length-5 c = search needs
+
+same-length-6 : tie.Need-same-length-6
+same-length-6 c = search needs
+
+same-length-7 : tie.Need-same-length-7
+same-length-7 c = search needs
+
+same-length-8 : tie.Need-same-length-8
+same-length-8 c = search needs
+
+returns-2 : tie.Need-returns-2
+returns-2 c = (
+  write-done _ _ _ _ _ (measured _ _ _ _ _ _ _ (c .before .before .before .before .before .before .before .before .before .before .before .before .before .before .before .before .before .before .before .before .before .before .before .measure .ensures) (c .before .before .before .before .before .before .before .before .before .before .before .before .before .before .before .before .before .before .before .before .before .before .admit-write .ensures)) (c .before .before .before .before .before .before .before .before .before .before .before .before .before .before .before .before .before .before .before .before .before .if1 .left) _ (sym (c .before .before .before .before .before .before .before .before .before .before .before .before .before .before .before .before .page-for .ensures) ∙ c .before .before .before .before .before .before .before .before .before .before .before .before .before .before .page .given .1) _ (c .before .before .before .before .before .before .before .before .before .before .before .before .before .before .before .before .before .before .before .before .live .ensures) _ (c .before .before .before .before .before .before .before .before .put-value .ensures),
+  λ z. write-left _ _ _ _ _ (measured _ _ _ _ _ _ _ (c .before .before .before .before .before .before .before .before .before .before .before .before .before .before .before .before .before .before .before .before .before .before .before .measure .ensures) (c .before .before .before .before .before .before .before .before .before .before .before .before .before .before .before .before .before .before .before .before .before .before .admit-write .ensures)) (c .before .before .before .before .before .before .before .before .before .before .before .before .before .before .before .before .before .before .before .before .before .if1 .left) _ (sym (c .before .before .before .before .before .before .before .before .before .before .before .before .before .before .before .before .page-for .ensures) ∙ c .before .before .before .before .before .before .before .before .before .before .before .before .before .before .page .given .1) _ (c .before .before .before .before .before .before .before .before .before .before .before .before .before .before .before .before .before .before .before .before .live .ensures) _ (c .before .before .before .before .before .before .before .before .put-value .ensures),
+)
+
+same-length-9 : tie.Need-same-length-9
+same-length-9 c = search needs
+
+same-length-10 : tie.Need-same-length-10
+same-length-10 c = search needs
+
+same-length-11 : tie.Need-same-length-11
+same-length-11 c = search needs
+
+same-length-12 : tie.Need-same-length-12
+same-length-12 c = search needs
+
+returns-3 : tie.Need-returns-3
+returns-3 c = (write-full _ _ _ _ _ (measured _ _ _ _ _ _ _ (c .before .before .before .before .before .before .before .before .before .measure .ensures) (c .before .before .before .before .before .before .before .before .admit-write .ensures)) (c .before .before .before .before .before .before .before .if1 .left) (sym (c .before .before .page-for .ensures) ∙ c .enum-told .given .1), λ z. absurd (omega arith))
+
+pub write-spec : {M : Type 1} → statement M
+write-spec =
+    tie.close
+    (tie.spec
+    measure-requires
+    admit-write-requires
+    same-length
+    same-length-2
+    same-length-3
+    same-length-4
+    returns
+    live-requires
+    page-for-requires
+    enum-known-page
+    put-value-requires
+    enum-told
+    same-length-5
+    same-length-6
+    same-length-7
+    same-length-8
+    returns-2
+    same-length-9
+    same-length-10
+    same-length-11
+    same-length-12
+    returns-3)

@@ -17,7 +17,7 @@ use Rattle.rules.specs.Call.{Origin, refused}
 use Rattle.rules.specs.Call.Origin.{from-cache, from-frame, from-archive}
 use Rattle.rules.specs.Call.Answer.{outcome}
 use Rattle.rules.specs.Call.Call.{ADVANCE}
-use Rattle.rules.specs.Seen.{accepted, dropped, needs}
+use Rattle.rules.specs.Seen.{accepted, dropped}
 use Rattle.rules.specs.Refusal.{markedRefusal, stateRefusal, refusal, noPage}
 use Rattle.rules.specs.Figure2.{figureStep, cmfStep, omfStep, omrv, versionIn, foundIn, isWritten}
 use Rattle.rules.specs.Figure3.{WellCache, cacheStep}
@@ -26,27 +26,22 @@ use Rattle.rules.proofs.Settings.{Good, within-good}
 use Rattle.rules.proofs.Promise.{Fits, fits-facts, facts-fit}
 use Rattle.rules.proofs.WellSteps.{advance-well}
 use Rattle.rules.proofs.Circle.{live-advance, live-at-most}
-use Rattle.rules.proofs.Count.{any-true}
 use Rattle.frames.specs.Circle.{frameAt}
 use Rattle.frames.specs.Search.{greatest}
-use Rattle.frames.specs.declared.Found.{Found}
-use Rattle.frames.specs.declared.Found.the-variants.{At, Nothing}
-use Rattle.frames.proofs.Circle.{index-frame, frame-below}
 use Rattle.frames.proofs.Search.{greatest-found}
 use Rattle.written.specs.Bits.{writtenOf, effective, newestFrom}
 use Rattle.written.specs.Steps.{cleared, lowered}
 use Rattle.written.specs.Well.{WellBits}
 use Rattle.written.proofs.Advancing.{advanced-effective, advanced-well}
-use Rattle.written.proofs.Finding.{versionOf, version-back}
+use Rattle.written.proofs.Finding.{version-back}
 use Rattle.pages.specs.Lines.{pageLine, archiveLine}
-use Rattle.pages.specs.Table.{placeAt, neededAt}
-use Rattle.pages.proofs.Keeping.{needed-place, place-within, advanced-confirmed}
+use Rattle.pages.specs.Table.{placeAt}
+use Rattle.pages.proofs.Keeping.{advanced-confirmed}
 use Rattle.cache.specs.Steps.{archive, frameAfter, collected}
 use Rattle.cache.specs.Shown.{shown}
 use Rattle.cache.proofs.Frames.{collected-sized, collected-shown, collected-all}
 use Rattle.cache.specs.declared.Cache.{Cache}
-use Rattle.versions.specs.declared.Spot.the-variants.{Page, Archive}
-use Rattle.versions.specs.Newest.{pageOf, spotOf, contentOf}
+use Rattle.versions.specs.Newest.{spotOf, contentOf}
 use Rattle.versions.specs.Steps.{folded, AsksFold}
 use Rattle.storage.specs.declared.State.{State}
 use Rattle.storage.specs.Storage.{Storage, storageOf, memoryOf, settingsIn, lengthsIn, pastIn, Recent, Coherent, liveIn, writtenIn, indexBack, frameIn, archiveIn, versionAt, latestIn, frameNumber, newestFrame, WellStore, store}
@@ -59,7 +54,7 @@ use Rattle.storage.proofs.Figures.{AlikeAt, frames-alike, frame-at, fra
 use Rattle.storage.proofs.Past.{cleared-long, cleared-past, lowered-long, lowered-past}
 use Rattle.storage.proofs.Folds.{Folded, lines-folded}
 use Rattle.storage.proofs.Numbers.{below-frame, below-archive}
-use Rattle.storage.proofs.Reading.{version-content}
+use Rattle.storage.proofs.Reading.{well-findable, version-content}
 use Rattle.storage.proofs.Rows.{Within, found-within, version-same, split-version, first, first-found}
 
 -- What a fold asks, of a state, lent memory and k that are admitted.
@@ -198,7 +193,7 @@ module _ (x : Storage) (q : WellStore x) (k : ℕ) (some-k : 0 < k) (low : k ≤
         ap (λ (t : Bool). cond t (archiveLine (new .memory .archive) l) zeros) (lt-ltb l (x .state .lines) b)
         ∙ (lines-in x k long .line l b
         ∙ (ap (λ (m : ℕ). contentOf (x .memory .archive) (x .memory .pool) l (spotOf (x .state .lines) (x .state .frames) (x .state .omf) (x .state .pages) (x .memory .table) l (greatest m row))) start
-        ∙ (version-content x q l b (greatest k row) (λ i e. let g = greatest-found k row i e in (omega (arith, g .below), g .passes))
+        ∙ (version-content x (well-findable x q) l b (greatest k row) (λ i e. let g = greatest-found k row i e in (omega (arith, g .below), g .passes))
         ∙ (sym (version-back k row (λ i. versionAt x i l) (archiveIn x l))
         ∙ sym (version-same k (λ j. frameIn x (kept + j) l) (λ j. cond (row (k - 1 - j)) (some (versionAt x (k - 1 - j) l)) none) (archiveIn x l) oldest)))))
 

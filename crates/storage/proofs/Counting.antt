@@ -3,12 +3,10 @@ use mathlib.Core.Path.{_≡_, refl, sym, _∙_, ap₂}
 use mathlib.Core.Logic.{_≢_}
 use mathlib.Core.Bool.{Bool, true, false, cond, _&&_}
 use mathlib.Core.Option.{none, some}
-use mathlib.Core.List.{List}
-use Prim.Native.Nat.{ℕ, zero, suc, _+_, _-_, _*_, _/_, _≤_, _<_}
+use Prim.Native.Nat.{ℕ, zero, suc, _+_, _-_, _*_, _/_, _<_}
 use native.Mathlib.Omega.{arith}
 use borrow.Author.Tests.{lt-ltb}
-use lib.ListN.{length, getD}
-use Rattle.rules.specs.Settings.{Settings, elements}
+use lib.ListN.{getD}
 use Rattle.rules.specs.Line.{Line}
 use Rattle.rules.specs.Call.{refused}
 use Rattle.rules.specs.Call.Answer.{counting}
@@ -21,8 +19,8 @@ use Rattle.rules.specs.Promise.{Promise, Followed, factsOf, figureOf, seenOf}
 use Rattle.rules.proofs.Promise.{fits-facts}
 use Rattle.rules.proofs.Count.{any-same, count-same}
 use Rattle.rules.proofs.Circle.{live-at-most}
-use Rattle.written.specs.Bits.{writtenOf, Lent, effective}
-use Rattle.pages.specs.Table.{AsksTable, placesOf, neededAt, heldAt}
+use Rattle.written.specs.Bits.{effective}
+use Rattle.pages.specs.Table.{placesOf, neededAt, heldAt}
 use Rattle.pages.proofs.Holding.{held-count}
 use Rattle.pages.proofs.Counting.{needed-pages}
 use Rattle.storage.specs.Storage.{Storage, settingsIn, liveIn, writtenIn, frameIn, versionAt, WellStore, store}

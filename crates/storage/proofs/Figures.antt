@@ -9,7 +9,7 @@ use borrow.Author.Tests.{lt-ltb, le-ltb}
 use lib.Dec.{ltb}
 use Rattle.rules.specs.Settings.{Settings}
 use Rattle.rules.specs.Line.{Line, IsLine, zeros}
-use Rattle.rules.specs.Figure2.{Figure, figureSeen}
+use Rattle.rules.specs.Figure2.{Figure}
 use Rattle.rules.specs.Promise.{WellFigure, Lawful, figureOf, seenOf}
 use Rattle.rules.proofs.Promise.{fits-facts}
 use Rattle.rules.proofs.Circle.{live-some, live-at-most}

@@ -8,6 +8,7 @@ pub mod Past
 pub mod Numbers
 pub mod Reading
 pub mod Using
+pub mod Checking
 pub mod Starting
 pub mod Marking
 pub mod Rolling

@@ -7,12 +7,12 @@ use native.Mathlib.Decide.{decLt}
 use native.Mathlib.Omega.{arith}
 use borrow.Author.Tests.{lt-ltb, le-ltb}
 use lib.Dec.{ltb}
-use lib.ListN.{length, getD, set, drop, length-drop, length-set}
+use lib.ListN.{length, getD, drop, length-drop, length-set}
 use lib.Seq.{ext-getD, getD-drop}
 use Rattle.frames.proofs.Lists.{drop-set, rewrite-drop, rewrite-length}
 use Rattle.written.specs.Bits.{Written, writtenOf, Lent}
 use Rattle.written.proofs.Rolling.{group-place}
-use Rattle.written.specs.Steps.{Entered, RolledBack, swept, nextTag, cleared, lowered, withWritten}
+use Rattle.written.specs.Steps.{RolledBack, swept, nextTag, cleared, lowered, withWritten}
 
 -- The same of a list is true of what is left of it behind an element, if it is true of each element there.
 drop-alike : (n : ℕ) (xs ys : List ℕ) → length xs ≡ length ys → ((i : ℕ) → n ≤ i → getD xs i 0 ≡ getD ys i 0) → drop n xs ≡ drop n ys

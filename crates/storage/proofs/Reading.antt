@@ -1,17 +1,15 @@
 -- Where the newest version of a line stands and what it is: on well-formed storage the code finds what Figure 2 does. Assumes nothing.
-use mathlib.Core.Path.{_≡_, refl, sym, _∙_, ap, ap₂, subst}
-use mathlib.Core.Bool.{Bool, true, false, cond}
-use mathlib.Core.Option.{Option, none, some, Option·getD}
-use mathlib.Core.List.{List}
-use Prim.Native.Nat.{ℕ, zero, suc, _+_, _-_, _/_, _%_, _≤_, _<_}
+use mathlib.Core.Path.{_≡_, refl, sym, _∙_, ap}
+use mathlib.Core.Bool.{Bool, true, cond}
+use mathlib.Core.Option.{none, some}
+use Prim.Native.Nat.{ℕ, _-_, _/_, _≤_, _<_}
 use native.Mathlib.Omega.{arith}
 use borrow.Author.Tests.{lt-ltb}
-use lib.Dec.{ltb}
-use lib.ListN.{length}
-use Rattle.rules.specs.Line.{Line, IsLine, zeros}
-use Rattle.rules.specs.Call.{Origin}
-use Rattle.rules.specs.Call.Origin.{from-cache, from-frame, from-archive}
-use Rattle.rules.specs.Figure2.{versionIn, foundIn, isWritten, mrv, figureSeen}
+use lib.ListN.{getD}
+use Rattle.rules.specs.Line.{IsLine, zeros}
+use Rattle.rules.specs.Call.Origin.{from-cache}
+use Rattle.rules.specs.Refusal.{stateFits}
+use Rattle.rules.specs.Figure2.{foundIn, isWritten, figureSeen}
 use Rattle.rules.specs.Figure3.{holds}
 use Rattle.rules.specs.Promise.{figureOf, seenOf}
 use Rattle.rules.proofs.Settings.{Good, within-good}
@@ -26,10 +24,10 @@ use Rattle.frames.proofs.Circle.{frame-below}
 use Rattle.frames.proofs.Search.{Greatest, greatest-found}
 use Rattle.written.specs.Bits.{effective, newestFrom}
 use Rattle.written.proofs.Finding.{backOf, versionOf, found-back, version-back}
-use Rattle.pages.specs.Lines.{pageLine, archiveLine}
-use Rattle.pages.specs.Table.{placeAt}
+use Rattle.pages.specs.Lines.{archiveLine}
+use Rattle.pages.specs.Table.{Confirmed, neededAt, placeAt, placesOf}
 use Rattle.pages.proofs.Keeping.{place-within, effective-needed}
-use Rattle.cache.specs.Entries.{FoundAt, found, isHit}
+use Rattle.cache.specs.Entries.{found, isHit}
 use Rattle.cache.specs.declared.Entry.{Entry}
 use Rattle.cache.specs.declared.Entry.the-variants.{Hit, Miss}
 use Rattle.cache.specs.Shown.{shown}
@@ -37,12 +35,22 @@ use Rattle.cache.proofs.Hits.{hit-shown, found-at}
 use Rattle.versions.specs.declared.Spot.the-variants.{Page, Archive}
 use Rattle.versions.specs.declared.Version.{Version}
 use Rattle.versions.specs.Newest.{pageOf, spotOf, contentOf, numberOf, backIn, originOf, newestOf, latestFrom, latestOf}
-use Rattle.storage.specs.Storage.{Storage, settingsIn, liveIn, writtenIn, indexBack, versionAt, frameIn, archiveIn, latestIn, frameNumber, newestFrame, WellStore, store}
+use Rattle.storage.specs.Storage.{Storage, settingsIn, liveIn, writtenIn, versionAt, frameIn, archiveIn, latestIn, frameNumber, newestFrame, WellStore, store}
 use Rattle.storage.proofs.Counting.{written-effective}
 use Rattle.storage.proofs.Figures.{frame-at}
 use Rattle.storage.proofs.Rows.{version-same, found-same}
 
-module _ (x : Storage) (q : WellStore x) where
+-- What the search for a line's newest version asks of storage.
+pub record Findable (x : Storage) : Type 0 where
+  pub fits : stateFits (settingsIn (x .state)) (x .state .cmf) (x .state .omf) ≡ true
+  pub pages :
+      Confirmed (neededAt (writtenIn x)) (placesOf (writtenIn x)) (x .state .pages) (λ y. getD (x .memory .table) y 0)
+      (λ p. getD (x .memory .owners) p 0)
+
+pub well-findable : (x : Storage) → WellStore x → Findable x
+well-findable x q = record { fits = q .fits; pages = q .pages }
+
+module _ (x : Storage) (q : Findable x) where
   abbrev n : ℕ
   n = liveIn (x .state)
 
@@ -137,29 +145,30 @@ module _ (x : Storage) (q : WellStore x) where
     newest-told v e =
         (ap (λ (w : Version). w .content) e ∙ content-latest, ap (λ (w : Version). w .frame) e ∙ number-newest, ap (λ (w : Version). originOf (w .origin)) e ∙ (backed newest ∙ sym origin-found))
 
-    -- and so is the one that the cache has.
-    pub latest-told : (v : Version) → v ≡ latestOf (x .state .cache) (writtenIn x) (x .state .pages) n (x .memory .archive) (x .memory .pool) (x .memory .table) l
-        → (v .content ≡ latestIn x l) × (v .frame ≡ newestFrame x l)
-        × (originOf (v .origin) ≡ cond (holds (shown (x .state .cache)) l) from-cache (seenOf store x .origin l))
-    unfolding latestOf latestFrom originOf isHit
-    latest-told v e = go (found (x .state .cache) l) refl
-      where
-        go : (r : Entry) → found (x .state .cache) l ≡ r
-            → (v .content ≡ latestIn x l) × (v .frame ≡ newestFrame x l)
-            × (originOf (v .origin) ≡ cond (holds (shown (x .state .cache)) l) from-cache (seenOf store x .origin l))
-        go (Hit h) d =
-            let f = found-at (x .state .cache) l h d in
-            let c = q .coherent h (f .valid) in
-            let is = e ∙ ap (latestFrom (x .state .cache) _) d in (
-              ap (λ (w : Version). w .content) is ∙ (c .0 ∙ ap (latestIn x) (f .line)),
-              ap (λ (w : Version). w .frame) is ∙ (c .1 ∙ ap (newestFrame x) (f .line)),
-              ap (λ (w : Version). originOf (w .origin)) is ∙ sym (ap (λ (t : Bool). cond t from-cache (seenOf store x .origin l)) (sym (hit-shown (x .state .cache) l) ∙ ap isHit d)),
-            )
-        go Miss d =
-            let r = newest-told v (e ∙ ap (latestFrom (x .state .cache) _) d) in
-            (r .0, r .1, r .2 ∙ sym (ap (λ (t : Bool). cond t from-cache (seenOf store x .origin l)) (sym (hit-shown (x .state .cache) l) ∙ ap isHit d)))
+module _ (x : Storage) (q : WellStore x) (l : ℕ) (b : l < x .state .lines) where
+  -- and so is the one that the cache has.
+  pub latest-told : (v : Version) → v ≡ latestOf (x .state .cache) (writtenIn x) (x .state .pages) (liveIn (x .state)) (x .memory .archive) (x .memory .pool) (x .memory .table) l
+      → (v .content ≡ latestIn x l) × (v .frame ≡ newestFrame x l)
+      × (originOf (v .origin) ≡ cond (holds (shown (x .state .cache)) l) from-cache (seenOf store x .origin l))
+  unfolding latestOf latestFrom originOf isHit
+  latest-told v e = go (found (x .state .cache) l) refl
+    where
+      go : (r : Entry) → found (x .state .cache) l ≡ r
+          → (v .content ≡ latestIn x l) × (v .frame ≡ newestFrame x l)
+          × (originOf (v .origin) ≡ cond (holds (shown (x .state .cache)) l) from-cache (seenOf store x .origin l))
+      go (Hit h) d =
+          let f = found-at (x .state .cache) l h d in
+          let c = q .coherent h (f .valid) in
+          let is = e ∙ ap (latestFrom (x .state .cache) _) d in (
+            ap (λ (w : Version). w .content) is ∙ (c .0 ∙ ap (latestIn x) (f .line)),
+            ap (λ (w : Version). w .frame) is ∙ (c .1 ∙ ap (newestFrame x) (f .line)),
+            ap (λ (w : Version). originOf (w .origin)) is ∙ sym (ap (λ (t : Bool). cond t from-cache (seenOf store x .origin l)) (sym (hit-shown (x .state .cache) l) ∙ ap isHit d)),
+          )
+      go Miss d =
+          let r = newest-told x (well-findable x q) l b v (e ∙ ap (latestFrom (x .state .cache) _) d) in
+          (r .0, r .1, r .2 ∙ sym (ap (λ (t : Bool). cond t from-cache (seenOf store x .origin l)) (sym (hit-shown (x .state .cache) l) ∙ ap isHit d)))
 
-    -- It is a line of bytes.
-    pub latest-line : IsLine (latestIn x l)
-    unfolding latestIn
-    latest-line = version-line n (λ j. frameIn x j l) (archiveIn x l) (λ j v e. q .version-line j l v e) (q .archive-line l)
+  -- It is a line of bytes.
+  pub latest-line : IsLine (latestIn x l)
+  unfolding latestIn
+  latest-line = version-line (liveIn (x .state)) (λ j. frameIn x j l) (archiveIn x l) (λ j v e. q .version-line j l v e) (q .archive-line l)

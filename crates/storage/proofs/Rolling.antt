@@ -1,15 +1,15 @@
 -- ROLLBACK keeps its promise. Assumes nothing.
 use mathlib.Core.Path.{_≡_, refl, sym, _∙_, ap, ap₂, subst, fun-ext}
 use mathlib.Core.Logic.{_≢_}
-use mathlib.Core.Bool.{Bool, true, false, cond, not, _&&_, and-true}
-use mathlib.Core.Option.{Option, none, some}
+use mathlib.Core.Bool.{Bool, true, false, not, _&&_, and-true}
+use mathlib.Core.Option.{Option}
 use mathlib.Core.List.{List}
-use Prim.Native.Nat.{ℕ, suc, _+_, _-_, _*_, _/_, _%_, _≤_, _<_}
+use Prim.Native.Nat.{ℕ, _+_, _-_, _*_, _/_, _%_, _≤_, _<_}
 use native.Mathlib.Nat.{mod-lt}
 use native.Mathlib.Decide.{decLt}
 use native.Mathlib.Omega.{arith}
 use borrow.Author.Tests.{lt-ltb, le-ltb}
-use lib.Dec.{ltb, eqb}
+use lib.Dec.{ltb}
 use lib.ListN.{length, getD, drop}
 use Rattle.rules.specs.Settings.{Pieces, elements, enough}
 use Rattle.rules.specs.Line.{Line}
@@ -27,16 +27,15 @@ use Rattle.rules.proofs.Promise.{Fits, fits-facts, facts-fit}
 use Rattle.rules.proofs.WellSteps.{rollback-well}
 use Rattle.rules.proofs.WellCache.{forget-well}
 use Rattle.rules.proofs.Circle.{live-rollback, live-at-most}
-use Rattle.frames.specs.Circle.{frameAt, indexOf}
-use Rattle.frames.proofs.Circle.{index-frame, frame-below}
+use Rattle.frames.specs.Circle.{frameAt}
 use Rattle.written.specs.Bits.{effective}
 use Rattle.written.specs.Steps.{RolledBack}
 use Rattle.written.specs.Well.{WellBits}
-use Rattle.written.proofs.Rolling.{rolled, rolled-effective, rolled-well}
+use Rattle.written.proofs.Rolling.{rolled-effective, rolled-well}
 use Rattle.pages.specs.Table.{placeAt}
 use Rattle.pages.proofs.Keeping.{rolled-confirmed}
-use Rattle.cache.specs.Entries.{lineOf, frameOf, isValid}
-use Rattle.cache.specs.Steps.{archive, isBelow, isDropped, forgotten}
+use Rattle.cache.specs.Entries.{lineOf}
+use Rattle.cache.specs.Steps.{archive, isDropped, forgotten}
 use Rattle.cache.specs.Shown.{shown}
 use Rattle.cache.proofs.Frames.{forgotten-sized, forgotten-shown, forgotten-all}
 use Rattle.cache.specs.declared.Cache.{Cache}

@@ -1,10 +1,10 @@
 -- RESET keeps its promise, on any state and any lent contents. Assumes nothing.
 use mathlib.Core.Path.{_≡_, refl, sym, _∙_, ap, ap₂, subst, fun-ext}
 use mathlib.Core.Logic.{_≢_}
-use mathlib.Core.Bool.{Bool, true, false, cond, _&&_}
+use mathlib.Core.Bool.{Bool, true, cond}
 use mathlib.Core.Option.{Option, none, some}
 use mathlib.Core.List.{List}
-use Prim.Native.Nat.{ℕ, _+_, _*_, _/_, _%_, _-_, _≤_, _<_, min}
+use Prim.Native.Nat.{ℕ, _+_, _*_, _/_, _-_, _≤_, _<_, min}
 use native.Mathlib.Decide.{decLt}
 use native.Mathlib.Omega.{arith}
 use borrow.Author.Tests.{lt-ltb, le-ltb}
@@ -18,9 +18,9 @@ use Rattle.rules.specs.Call.{refused}
 use Rattle.rules.specs.Call.Answer.{outcome}
 use Rattle.rules.specs.Call.Call.{RESET}
 use Rattle.rules.specs.Refusal.{unless, askedRefusal, refusal, noPage}
-use Rattle.rules.specs.Figure2.{Figure, initial}
-use Rattle.rules.specs.Figure3.{WellCache, emptyCache}
-use Rattle.rules.specs.Promise.{Promise, Started, WellFigure, figureOf, factsOf, target}
+use Rattle.rules.specs.Figure2.{initial}
+use Rattle.rules.specs.Figure3.{WellCache}
+use Rattle.rules.specs.Promise.{Promise, Started, figureOf, factsOf, target}
 use Rattle.rules.proofs.Settings.{Good, within-good, good-within}
 use Rattle.rules.proofs.Chain.{passed}
 use Rattle.rules.proofs.Circle.{live-start}
@@ -30,7 +30,6 @@ use Rattle.rules.proofs.WellCache.{empty-well}
 use Rattle.frames.specs.Lists.{rewrite}
 use Rattle.frames.specs.Lines.{lineAt}
 use Rattle.frames.proofs.Lists.{drop-set, rewrite-drop, rewrite-length, rewrite-at}
-use Rattle.written.specs.Bits.{effective}
 use Rattle.written.specs.Steps.{blanked, AsksReset}
 use Rattle.written.specs.Well.{WellBits}
 use Rattle.written.proofs.Keeping.{started-effective, started-well}
@@ -40,7 +39,7 @@ use Rattle.cache.specs.declared.Cache.{Cache}
 use Rattle.cache.specs.Steps.{emptied}
 use Rattle.cache.proofs.Uses.{empty-shown, empty-all, empty-sized}
 use Rattle.versions.specs.Steps.{zeroed}
-use Rattle.storage.specs.Storage.{Storage, storageOf, memoryOf, settingsIn, lengthsIn, liveIn, writtenIn, indexBack, versionAt, frameIn, archiveIn, Recent, WellStore, store}
+use Rattle.storage.specs.Storage.{Storage, storageOf, memoryOf, lengthsIn, liveIn, writtenIn, indexBack, versionAt, frameIn, archiveIn, Recent, WellStore, store}
 use Rattle.storage.specs.declared.State.{State}
 use Rattle.storage.specs.Steps.{freshState, ResetTo}
 use Rattle.storage.specs.Admit.{covers}

@@ -1,18 +1,18 @@
 -- WRITE keeps its promise, in the form in which the code has what is left. Assumes nothing.
-use mathlib.Core.Path.{_≡_, refl, sym, _∙_, ap, ap₂, subst}
+use mathlib.Core.Path.{_≡_, refl, sym, _∙_, ap, subst}
 use mathlib.Core.Logic.{_≢_}
-use mathlib.Core.Bool.{Bool, true, false, not, _&&_}
+use mathlib.Core.Bool.{true, false}
 use mathlib.Core.List.{List}
 use Prim.Native.Nat.{ℕ, _+_, _-_, _*_, _/_, _%_, _≤_, _<_}
 use native.Mathlib.Omega.{arith}
 use lib.ListN.{length, drop, set, length-set}
-use Rattle.rules.specs.Settings.{Settings, Pieces, elements}
+use Rattle.rules.specs.Settings.{elements}
 use Rattle.rules.specs.Line.{Line, lineOf, offsetOf, edit}
 use Rattle.rules.specs.Call.{refused}
 use Rattle.rules.specs.Call.Answer.{outcome}
 use Rattle.rules.specs.Call.Call.{WRITE}
 use Rattle.rules.specs.Refusal.{unless, writeRefusal, stateRefusal, refusal, noPage}
-use Rattle.rules.specs.Promise.{Promise, Followed, factsOf, seenOf, target}
+use Rattle.rules.specs.Promise.{Promise, Followed, factsOf, target}
 use Rattle.rules.proofs.Promise.{refuse, accept}
 use Rattle.rules.proofs.Chain.{Placed}
 use Rattle.rules.proofs.Width.{line-below}
@@ -33,7 +33,7 @@ use Rattle.versions.specs.Newest.{entryPlace, latestOf}
 use Rattle.versions.specs.Steps.{pageFor}
 use Rattle.versions.proofs.Finding.{entry-within}
 use Rattle.storage.specs.declared.State.{State}
-use Rattle.storage.specs.Storage.{Storage, storageOf, memoryOf, settingsIn, lengthsIn, pastIn, liveIn, writtenIn, latestIn, WellStore, store}
+use Rattle.storage.specs.Storage.{Storage, storageOf, memoryOf, settingsIn, lengthsIn, pastIn, liveIn, writtenIn, WellStore, store}
 use Rattle.storage.specs.Steps.{stateWith, usedState, contentAfter, currentPlace, WroteTo, Put, AsksWrite}
 use Rattle.storage.specs.Admit.{admitted}
 use Rattle.storage.proofs.Admitting.{Room, room-lent, room-newest}

@@ -1,14 +1,14 @@
 -- READ and LINE keep their promise. Assumes nothing.
 use mathlib.Core.Path.{_≡_, refl, sym, _∙_, ap, ap₂, subst}
 use mathlib.Core.Logic.{_≢_}
-use mathlib.Core.Bool.{Bool, cond}
+use mathlib.Core.Bool.{cond}
 use mathlib.Core.List.{List, []}
 use Prim.Native.Nat.{ℕ, _+_, _-_, _*_, _%_, _≤_, _<_}
 use native.Mathlib.Omega.{arith}
 use lib.ListN.{length, take, drop}
-use Rattle.rules.specs.Line.{Line, lineOf, offsetOf, valueAt}
-use Rattle.rules.specs.Call.{Origin, Answer, refused}
-use Rattle.rules.specs.Call.Origin.{from-cache, from-frame, from-archive}
+use Rattle.rules.specs.Line.{lineOf, offsetOf, valueAt}
+use Rattle.rules.specs.Call.{Answer, refused}
+use Rattle.rules.specs.Call.Origin.{from-cache, from-archive}
 use Rattle.rules.specs.Call.Answer.{reading, lending}
 use Rattle.rules.specs.Call.Call.{READ, LINE}
 use Rattle.rules.specs.Seen.{accepted}
@@ -33,13 +33,13 @@ use Rattle.versions.specs.declared.Version.{Version}
 use Rattle.versions.specs.Newest.{spotOf, contentOf, originOf, latestOf}
 use Rattle.versions.proofs.Finding.{spot-below}
 use Rattle.storage.specs.declared.State.{State}
-use Rattle.storage.specs.Storage.{Storage, settingsIn, lengthsIn, liveIn, writtenIn, frameIn, archiveIn, versionAt, latestIn, frameNumber, newestFrame, Recent, WellStore, store}
+use Rattle.storage.specs.Storage.{Storage, settingsIn, lengthsIn, liveIn, writtenIn, frameIn, archiveIn, versionAt, latestIn, newestFrame, Recent, WellStore, store}
 use Rattle.storage.specs.Steps.{stateWith, usedState, readState}
 use Rattle.storage.specs.Admit.{admitted}
 use Rattle.storage.proofs.Chains.{admitted-rest, line-room}
 use Rattle.storage.proofs.Looking.{admittedIn, turned-down, let-through}
 use Rattle.storage.proofs.Numbers.{used-number}
-use Rattle.storage.proofs.Reading.{newest, content-latest, latest-told, latest-line}
+use Rattle.storage.proofs.Reading.{well-findable, content-latest, latest-told, latest-line}
 
 -- A use of a line by a READ: the cache has its most recent version, and all else is as it was.
 module _ (x : Storage) (q : WellStore x) (l : ℕ) (b : l < x .state .lines) where
@@ -144,7 +144,7 @@ module _ (x : Storage) (l r : ℕ) (told : r ≡ admittedIn x (lineRefusal (sett
     unfolding accepted figureStep cmfStep omfStep cacheStep seenOf figureSeen figureOf mrv latestIn
     followed bytes e q =
         record {
-          answer = ap lending (e ∙ (ap (contentOf (x .memory .archive) (x .memory .pool) l) (spot-is ∙ ap (spotOf (x .state .lines) (x .state .frames) (x .state .omf) (x .state .pages) (x .memory .table) l) (found-is ∙ ap (λ (m : ℕ). newestFrom (writtenIn x) l (m - 1)) live-is)) ∙ content-latest x q l (line-room (settingsIn (x .state)) (x .state .cmf) (x .state .omf) (lengthsIn (x .memory)) r l told z .line-below)));
+          answer = ap lending (e ∙ (ap (contentOf (x .memory .archive) (x .memory .pool) l) (spot-is ∙ ap (spotOf (x .state .lines) (x .state .frames) (x .state .omf) (x .state .pages) (x .memory .table) l) (found-is ∙ ap (λ (m : ℕ). newestFrom (writtenIn x) l (m - 1)) live-is)) ∙ content-latest x (well-findable x q) l (line-room (settingsIn (x .state)) (x .state .cmf) (x .state .omf) (lengthsIn (x .memory)) r l told z .line-below)));
           well = q;
           settings = refl;
           cmf = refl;

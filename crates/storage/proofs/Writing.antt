@@ -1,24 +1,21 @@
 -- WRITE keeps its promise: the step on well-formed storage. Assumes nothing.
 use mathlib.Core.Path.{_≡_, refl, sym, _∙_, ap, ap₂, subst, fun-ext}
-use mathlib.Core.Logic.{_≢_, _⊎_, inl, inr}
-use mathlib.Core.Bool.{Bool, true, false, cond, not, _&&_, _||_, and-true, and-false}
+use mathlib.Core.Logic.{_≢_}
+use mathlib.Core.Bool.{Bool, true, false, cond, _&&_, _||_, and-false}
 use mathlib.Core.Option.{Option, none, some, Option·getD}
-use mathlib.Core.List.{List}
 use Prim.Native.Nat.{ℕ, zero, suc, _+_, _-_, _*_, _/_, _%_, _≤_, _<_}
-use native.Mathlib.Decide.{decLt, ℕ-discrete}
+use native.Mathlib.Decide.{ℕ-discrete}
 use native.Mathlib.Omega.{arith}
-use borrow.Author.Tests.{lt-ltb, le-ltb, eq-eqb, ne-eqb}
-use lib.Dec.{ltb, eqb}
+use borrow.Author.Tests.{eq-eqb, ne-eqb}
+use lib.Dec.{eqb}
 use lib.ListN.{length, getD, set, length-set}
 use lib.Seq.{getD-set-same, getD-set-other}
 use Rattle.rules.specs.Settings.{Pieces, elements, enough}
-use Rattle.rules.specs.Line.{Line, IsLine, lineOf, offsetOf, edit}
-use Rattle.rules.specs.Call.{Origin}
-use Rattle.rules.specs.Call.Origin.{from-cache, from-frame, from-archive}
+use Rattle.rules.specs.Line.{Line, lineOf, offsetOf, edit}
 use Rattle.rules.specs.Call.Answer.{outcome}
 use Rattle.rules.specs.Call.Call.{WRITE}
 use Rattle.rules.specs.Seen.{accepted}
-use Rattle.rules.specs.Figure2.{Figure, versionIn, foundIn, isWritten, mrv, written, figureStep, cmfStep, omfStep, figureSeen}
+use Rattle.rules.specs.Figure2.{versionIn, foundIn, isWritten, mrv, written, figureStep, cmfStep, omfStep, figureSeen}
 use Rattle.rules.specs.Figure3.{WellCache, use-line, cacheStep}
 use Rattle.rules.specs.Promise.{Followed, WellFigure, figureOf, seenOf}
 use Rattle.rules.proofs.Chain.{Placed}
@@ -28,7 +25,6 @@ use Rattle.rules.proofs.WellSteps.{write-well}
 use Rattle.rules.proofs.WellCache.{use-well}
 use lib.Arith.{digits-div, digits-mod}
 use Rattle.frames.specs.Circle.{indexOf, frameAt}
-use Rattle.frames.specs.Lines.{pasteLine}
 use Rattle.frames.proofs.Circle.{frame-below, index-frame}
 use Rattle.frames.proofs.Lines.{length-written, read-own}
 use Rattle.written.specs.Bits.{Written, Asks, effective}
@@ -36,13 +32,13 @@ use Rattle.written.specs.Steps.{withWritten}
 use Rattle.written.proofs.Setting.{set-effective}
 use Rattle.written.proofs.Keeping.{set-keeps}
 use Rattle.pages.specs.Lines.{pageLine, withPageLine}
-use Rattle.pages.specs.Table.{neededAt, placeAt, placesOf}
+use Rattle.pages.specs.Table.{neededAt, placeAt}
 use Rattle.pages.proofs.Places.{page-other}
 use Rattle.pages.proofs.Keeping.{place-within, effective-needed}
 use Rattle.cache.specs.Steps.{placed}
 use Rattle.cache.specs.Shown.{shown}
 use Rattle.cache.proofs.Uses.{placed-sized, placed-shown, placed-all}
-use Rattle.storage.specs.Storage.{Storage, storageOf, settingsIn, lengthsIn, liveIn, writtenIn, indexBack, versionAt, frameIn, archiveIn, latestIn, frameNumber, newestFrame, Recent, Coherent, WellStore, store}
+use Rattle.storage.specs.Storage.{Storage, storageOf, settingsIn, lengthsIn, liveIn, writtenIn, versionAt, frameIn, archiveIn, latestIn, frameNumber, newestFrame, Recent, Coherent, WellStore, store}
 use Rattle.storage.specs.Steps.{usedState}
 use Rattle.storage.specs.Admit.{covers}
 use Rattle.storage.proofs.Admitting.{Long, covers-long}
@@ -51,7 +47,7 @@ use Rattle.storage.proofs.Figures.{AlikeAt, frames-alike, frame-at, wel
 use Rattle.storage.proofs.Numbers.{used-number}
 use Rattle.storage.proofs.Rows.{current-twice, current-version, current-found}
 use Rattle.storage.proofs.Reading.{latest-line}
-use Rattle.storage.proofs.Choosing.{Chosen, place, place-inside, after-bit, cmf-frame, most, some-live, asks-table}
+use Rattle.storage.proofs.Choosing.{Chosen, place, place-inside, cmf-frame, most, some-live, asks-table}
 
 none-off : (m : ℕ) → m - 0 ≡ m
 none-off m = omega arith

@@ -10,7 +10,6 @@ use Rattle.written.specs.Bits.{writtenOf}
 use Rattle.written.specs.Steps.{RolledBack, withWritten, blanked, cleared, lowered}
 use Rattle.pages.specs.Lines.{withPageLine, AsksBytes}
 use Rattle.pages.specs.Table.{placeAt, neededAt, heldAt}
-use Rattle.versions.specs.declared.Version.{Version}
 use Rattle.versions.specs.Newest.{entryPlace, latestOf, AsksNewest}
 use Rattle.versions.specs.Steps.{zeroed, folded, AsksPut}
 use Rattle.cache.specs.declared.Cache.{Cache}

@@ -1,38 +1,22 @@
 // The store: every call of document 01, in memory that the caller lends.
 use cache::Cache;
 use frames::Found;
+pub use rules::Need;
+pub use rules::sizes;
 pub use storage::State;
 pub use versions::Origin;
 use versions::Spot;
 ghost use mathlib.Core.Path.{_≡_};
 ghost use Prim.Native.Nat.{_/_};
 ghost use Rattle.rules.specs.Sizing.{settingsOf};
-ghost use Rattle.rules.specs.Call.Answer.{outcome, reading, lending, counting};
-ghost use Rattle.rules.specs.Call.Call.{RESET, WRITE, READ, LINE, LINE-REFUSAL, MARK, ROLLBACK, ADVANCE, COUNTS};
+ghost use Rattle.rules.specs.Call.Answer.{outcome, reading, lending, counting, verdict};
+ghost use Rattle.rules.specs.Call.Call.{RESET, WRITE, READ, LINE, LINE-REFUSAL, MARK, ROLLBACK, ADVANCE, COUNTS, CHECK};
 ghost use Rattle.rules.specs.Promise.{Promise};
-ghost use Rattle.storage.specs.Storage.{storageOf, WellStore, store};
+ghost use Rattle.wellformed.specs.Decision.{Decides};
+ghost use Rattle.storage.specs.Storage.{settingsIn, memoryOf, lengthsIn, storageOf, WellStore, store};
+ghost use Rattle.storage.specs.Admit.{admitted};
 ghost use Rattle.versions.specs.Newest.{originOf};
 ghost use Rattle.storage.specs.Steps.{freshState, stateWith, markedState, ResetTo, RolledTo, AdvancedTo, ReadTo, WroteTo, Put, AsksWrite};
-
-// LINE's companion: the refusal of `line` on the same arguments, or 0.
-pub fn line_refusal(
-    state: State,
-    archive: &[u8],
-    pool: &[u8],
-    groups: &[u32],
-    table: &[u16],
-    owners: &[u32],
-    history: &[u16],
-    line: u32,
-) -> u32
-    ensures { λ r. ⌜ Promise store (LINE-REFUSAL line)
-        (storageOf state (now (archive .entry)) (now (pool .entry)) (now (groups .entry)) (now (table .entry)) (now (owners .entry)) (now (history .entry)))
-        (outcome r)
-        (storageOf state (now (archive .entry)) (now (pool .entry)) (now (groups .entry)) (now (table .entry)) (now (owners .entry)) (now (history .entry))) ⌝ }
-{
-    let lengths = storage::measure(archive, pool, groups, table, owners, history);
-    storage::admit_line(state, lengths, line)
-}
 
 // The state after a call, and its refusal or 0.
 pub struct Outcome {
@@ -40,20 +24,32 @@ pub struct Outcome {
     pub refusal: u32,
 }
 
-// The state with other registers, tag, hint and cache.
-fn state_with(state: State, cmf: u32, omf: u32, tag: u32, hint: u32, cache: Cache) -> State
-    ensures { λ r. ⌜ r ≡ stateWith state cmf omf tag hint cache ⌝ }
+// The value of a read and its origin, with the refusal or 0.
+pub struct Reading {
+    pub state: State,
+    pub refusal: u32,
+    pub value: u32,
+    pub origin: Origin,
+}
+
+// The live frames and the pages needed, with the refusal or 0.
+pub struct Counted {
+    pub refusal: u32,
+    pub live: u32,
+    pub pages: u32,
+}
+
+// CHECK's answer, with the refusal or 0.
+pub struct Verdict {
+    pub refusal: u32,
+    pub yes: bool,
+}
+
+// The blank state, which holds no store: L is 0. Every call but RESET refuses it with 5.
+pub fn blank() -> State
+    ensures { λ r. ⌜ r ≡ freshState 0 0 0 ⌝ }
 {
-    State {
-        lines: state.lines,
-        frames: state.frames,
-        pages: state.pages,
-        cmf,
-        omf,
-        tag,
-        hint,
-        cache,
-    }
+    fresh(0, 0, 0)
 }
 
 // The state of an empty store.
@@ -72,127 +68,24 @@ fn fresh(lines: u32, frames: u32, pages: u32) -> State
     }
 }
 
-// MARK: opens the next frame. Nothing is copied and nothing cleared.
-pub fn mark(
-    state: State,
-    archive: &[u8],
-    pool: &[u8],
-    groups: &[u32],
-    table: &[u16],
-    owners: &[u32],
-    history: &[u16],
-) -> Outcome
-    ensures { λ r. ⌜ (Promise store MARK
-        (storageOf state (now (archive .entry)) (now (pool .entry)) (now (groups .entry)) (now (table .entry)) (now (owners .entry)) (now (history .entry)))
-        (outcome (r .refusal))
-        (storageOf (r .state) (now (archive .entry)) (now (pool .entry)) (now (groups .entry)) (now (table .entry)) (now (owners .entry)) (now (history .entry))))
-        × (r .refusal ≡ 0 → r .state ≡ markedState state) ⌝ }
+// The state with other registers, tag, hint and cache.
+fn state_with(state: State, cmf: u32, omf: u32, tag: u32, hint: u32, cache: Cache) -> State
+    ensures { λ r. ⌜ r ≡ stateWith state cmf omf tag hint cache ⌝ }
 {
-    let lengths = storage::measure(archive, pool, groups, table, owners, history);
-    let refusal = storage::admit_mark(state, lengths);
-    if refusal != 0 {
-        return Outcome { state, refusal };
-    }
-    let held = state.cache;
-    let next = (state.cmf + 1) % state.frames;
-    Outcome {
-        state: state_with(state, next, state.omf, state.tag, state.hint, held),
-        refusal: 0,
-    }
-}
-
-// The live frames and the pages needed, with the refusal or 0.
-pub struct Counted {
-    pub refusal: u32,
-    pub live: u32,
-    pub pages: u32,
-}
-
-// COUNTS: the pages needed are those held, which their owners confirm.
-pub fn counts(
-    state: State,
-    archive: &[u8],
-    pool: &[u8],
-    groups: &[u32],
-    table: &[u16],
-    owners: &[u32],
-    history: &[u16],
-) -> Counted
-    ensures { λ r. ⌜ Promise store COUNTS
-        (storageOf state (now (archive .entry)) (now (pool .entry)) (now (groups .entry)) (now (table .entry)) (now (owners .entry)) (now (history .entry)))
-        (counting (r .refusal) (r .live) (r .pages))
-        (storageOf state (now (archive .entry)) (now (pool .entry)) (now (groups .entry)) (now (table .entry)) (now (owners .entry)) (now (history .entry))) ⌝ }
-{
-    let lengths = storage::measure(archive, pool, groups, table, owners, history);
-    let refusal = storage::admit(state, lengths);
-    if refusal != 0 {
-        return Counted {
-            refusal,
-            live: 0,
-            pages: 0,
-        };
-    }
-    let live = frames::live(state.cmf, state.omf, state.frames);
-    let pages = pages::table::count_held(
-        groups,
-        history,
-        table,
-        owners,
-        state.lines,
-        state.frames,
-        state.omf,
-        state.pages,
-    );
-    Counted {
-        refusal: 0,
-        live,
-        pages,
+    State {
+        lines: state.lines,
+        frames: state.frames,
+        pages: state.pages,
+        cmf,
+        omf,
+        tag,
+        hint,
+        cache,
     }
 }
 
-// ROLLBACK: drops the k newest frames. No written bit is cleared: the history masks them, and the next tag is free of them.
-pub fn rollback(
-    state: State,
-    archive: &[u8],
-    pool: &[u8],
-    groups: &mut [u32],
-    table: &[u16],
-    owners: &[u32],
-    history: &mut [u16],
-    k: u32,
-) -> Outcome
-    ensures { λ r. ⌜ (Promise store (ROLLBACK k)
-        (storageOf state (now (archive .entry)) (now (pool .entry)) (now (groups .entry)) (now (table .entry)) (now (owners .entry)) (now (history .entry)))
-        (outcome (r .refusal))
-        (storageOf (r .state) (now (archive .entry)) (now (pool .entry)) (now (groups .exit)) (now (table .entry)) (now (owners .entry)) (now (history .exit))))
-        × (r .refusal ≡ 0 → RolledTo state (now (groups .entry)) (now (history .entry)) k (r .state) (now (groups .exit)) (now (history .exit))) ⌝ }
-{
-    let lengths = storage::measure(archive, pool, groups, table, owners, history);
-    let refusal = storage::admit_frames(state, lengths, k);
-    if refusal != 0 {
-        return Outcome { state, refusal };
-    }
-    let kept = frames::live(state.cmf, state.omf, state.frames) - k;
-    let tag = written::rollback(
-        groups,
-        history,
-        state.lines,
-        state.frames,
-        state.omf,
-        state.tag % 256,
-        kept as u16,
-    );
-    let held = state.cache;
-    let cmf = (state.cmf + state.frames - k) % state.frames;
-    let cache = cache::forget(held, state.omf, state.frames, kept);
-    Outcome {
-        state: state_with(state, cmf, state.omf, tag, state.hint, cache),
-        refusal: 0,
-    }
-}
-
-// ADVANCE: folds the k oldest frames into the archive and frees them.
-pub fn advance(
+// RESET: an empty store with these settings, whatever the state and the lent memory held.
+pub fn reset(
     state: State,
     archive: &mut [u8],
     pool: &[u8],
@@ -200,44 +93,25 @@ pub fn advance(
     table: &[u16],
     owners: &[u32],
     history: &mut [u16],
-    k: u32,
+    lines: u32,
+    frames: u32,
+    pages: u32,
 ) -> Outcome
-    ensures { λ r. ⌜ (Promise store (ADVANCE k)
+    ensures { λ r. ⌜ (Promise store (RESET (settingsOf lines frames pages))
         (storageOf state (now (archive .entry)) (now (pool .entry)) (now (groups .entry)) (now (table .entry)) (now (owners .entry)) (now (history .entry)))
         (outcome (r .refusal))
         (storageOf (r .state) (now (archive .exit)) (now (pool .entry)) (now (groups .exit)) (now (table .entry)) (now (owners .entry)) (now (history .exit))))
-        × (r .refusal ≡ 0 → AdvancedTo state (now (archive .entry)) (now (pool .entry)) (now (groups .entry)) (now (table .entry)) (now (history .entry)) k (r .state) (now (archive .exit)) (now (groups .exit)) (now (history .exit))) ⌝ }
+        × (r .refusal ≡ 0 → ResetTo lines frames pages (now (archive .entry)) (now (groups .entry)) (now (history .entry)) (r .state) (now (archive .exit)) (now (groups .exit)) (now (history .exit))) ⌝ }
 {
     let lengths = storage::measure(archive, pool, groups, table, owners, history);
-    let refusal = storage::admit_frames(state, lengths, k);
+    let refusal = storage::asked_refusal(lines, frames, pages, lengths);
     if refusal != 0 {
         return Outcome { state, refusal };
     }
-    versions::fold(
-        archive,
-        pool,
-        groups,
-        table,
-        history,
-        state.lines,
-        state.frames,
-        state.omf,
-        state.pages,
-        k,
-    );
-    written::advance(
-        groups,
-        history,
-        state.lines,
-        state.frames,
-        state.omf,
-        k as u16,
-    );
-    let held = state.cache;
-    let omf = (state.omf + k) % state.frames;
-    let cache = cache::collect(held, state.omf, state.frames, k);
+    versions::zero(archive, lines);
+    written::reset(groups, history, lines, frames);
     Outcome {
-        state: state_with(state, state.cmf, omf, state.tag, state.hint, cache),
+        state: fresh(lines, frames, pages),
         refusal: 0,
     }
 }
@@ -361,14 +235,6 @@ pub fn write(
     }
 }
 
-// The value of a read and its origin, with the refusal or 0.
-pub struct Reading {
-    pub state: State,
-    pub refusal: u32,
-    pub value: u32,
-    pub origin: Origin,
-}
-
 // READ: from the cache where it holds the line, else from where the newest version stands; the cache has the line afterwards.
 pub fn read(
     state: State,
@@ -476,8 +342,98 @@ pub fn line<'a>(
     }
 }
 
-// RESET: an empty store with these settings, whatever the state and the lent memory held.
-pub fn reset(
+// LINE's companion: the refusal of `line` on the same arguments, or 0.
+pub fn line_refusal(
+    state: State,
+    archive: &[u8],
+    pool: &[u8],
+    groups: &[u32],
+    table: &[u16],
+    owners: &[u32],
+    history: &[u16],
+    line: u32,
+) -> u32
+    ensures { λ r. ⌜ Promise store (LINE-REFUSAL line)
+        (storageOf state (now (archive .entry)) (now (pool .entry)) (now (groups .entry)) (now (table .entry)) (now (owners .entry)) (now (history .entry)))
+        (outcome r)
+        (storageOf state (now (archive .entry)) (now (pool .entry)) (now (groups .entry)) (now (table .entry)) (now (owners .entry)) (now (history .entry))) ⌝ }
+{
+    let lengths = storage::measure(archive, pool, groups, table, owners, history);
+    storage::admit_line(state, lengths, line)
+}
+
+// MARK: opens the next frame. Nothing is copied and nothing cleared.
+pub fn mark(
+    state: State,
+    archive: &[u8],
+    pool: &[u8],
+    groups: &[u32],
+    table: &[u16],
+    owners: &[u32],
+    history: &[u16],
+) -> Outcome
+    ensures { λ r. ⌜ (Promise store MARK
+        (storageOf state (now (archive .entry)) (now (pool .entry)) (now (groups .entry)) (now (table .entry)) (now (owners .entry)) (now (history .entry)))
+        (outcome (r .refusal))
+        (storageOf (r .state) (now (archive .entry)) (now (pool .entry)) (now (groups .entry)) (now (table .entry)) (now (owners .entry)) (now (history .entry))))
+        × (r .refusal ≡ 0 → r .state ≡ markedState state) ⌝ }
+{
+    let lengths = storage::measure(archive, pool, groups, table, owners, history);
+    let refusal = storage::admit_mark(state, lengths);
+    if refusal != 0 {
+        return Outcome { state, refusal };
+    }
+    let held = state.cache;
+    let next = (state.cmf + 1) % state.frames;
+    Outcome {
+        state: state_with(state, next, state.omf, state.tag, state.hint, held),
+        refusal: 0,
+    }
+}
+
+// ROLLBACK: drops the k newest frames. No written bit is cleared: the history masks them, and the next tag is free of them.
+pub fn rollback(
+    state: State,
+    archive: &[u8],
+    pool: &[u8],
+    groups: &mut [u32],
+    table: &[u16],
+    owners: &[u32],
+    history: &mut [u16],
+    k: u32,
+) -> Outcome
+    ensures { λ r. ⌜ (Promise store (ROLLBACK k)
+        (storageOf state (now (archive .entry)) (now (pool .entry)) (now (groups .entry)) (now (table .entry)) (now (owners .entry)) (now (history .entry)))
+        (outcome (r .refusal))
+        (storageOf (r .state) (now (archive .entry)) (now (pool .entry)) (now (groups .exit)) (now (table .entry)) (now (owners .entry)) (now (history .exit))))
+        × (r .refusal ≡ 0 → RolledTo state (now (groups .entry)) (now (history .entry)) k (r .state) (now (groups .exit)) (now (history .exit))) ⌝ }
+{
+    let lengths = storage::measure(archive, pool, groups, table, owners, history);
+    let refusal = storage::admit_frames(state, lengths, k);
+    if refusal != 0 {
+        return Outcome { state, refusal };
+    }
+    let kept = frames::live(state.cmf, state.omf, state.frames) - k;
+    let tag = written::rollback(
+        groups,
+        history,
+        state.lines,
+        state.frames,
+        state.omf,
+        state.tag % 256,
+        kept as u16,
+    );
+    let held = state.cache;
+    let cmf = (state.cmf + state.frames - k) % state.frames;
+    let cache = cache::forget(held, state.omf, state.frames, kept);
+    Outcome {
+        state: state_with(state, cmf, state.omf, tag, state.hint, cache),
+        refusal: 0,
+    }
+}
+
+// ADVANCE: folds the k oldest frames into the archive and frees them.
+pub fn advance(
     state: State,
     archive: &mut [u8],
     pool: &[u8],
@@ -485,25 +441,157 @@ pub fn reset(
     table: &[u16],
     owners: &[u32],
     history: &mut [u16],
-    lines: u32,
-    frames: u32,
-    pages: u32,
+    k: u32,
 ) -> Outcome
-    ensures { λ r. ⌜ (Promise store (RESET (settingsOf lines frames pages))
+    ensures { λ r. ⌜ (Promise store (ADVANCE k)
         (storageOf state (now (archive .entry)) (now (pool .entry)) (now (groups .entry)) (now (table .entry)) (now (owners .entry)) (now (history .entry)))
         (outcome (r .refusal))
         (storageOf (r .state) (now (archive .exit)) (now (pool .entry)) (now (groups .exit)) (now (table .entry)) (now (owners .entry)) (now (history .exit))))
-        × (r .refusal ≡ 0 → ResetTo lines frames pages (now (archive .entry)) (now (groups .entry)) (now (history .entry)) (r .state) (now (archive .exit)) (now (groups .exit)) (now (history .exit))) ⌝ }
+        × (r .refusal ≡ 0 → AdvancedTo state (now (archive .entry)) (now (pool .entry)) (now (groups .entry)) (now (table .entry)) (now (history .entry)) k (r .state) (now (archive .exit)) (now (groups .exit)) (now (history .exit))) ⌝ }
 {
     let lengths = storage::measure(archive, pool, groups, table, owners, history);
-    let refusal = storage::asked_refusal(lines, frames, pages, lengths);
+    let refusal = storage::admit_frames(state, lengths, k);
     if refusal != 0 {
         return Outcome { state, refusal };
     }
-    versions::zero(archive, lines);
-    written::reset(groups, history, lines, frames);
+    versions::fold(
+        archive,
+        pool,
+        groups,
+        table,
+        history,
+        state.lines,
+        state.frames,
+        state.omf,
+        state.pages,
+        k,
+    );
+    written::advance(
+        groups,
+        history,
+        state.lines,
+        state.frames,
+        state.omf,
+        k as u16,
+    );
+    let held = state.cache;
+    let omf = (state.omf + k) % state.frames;
+    let cache = cache::collect(held, state.omf, state.frames, k);
     Outcome {
-        state: fresh(lines, frames, pages),
+        state: state_with(state, state.cmf, omf, state.tag, state.hint, cache),
         refusal: 0,
     }
+}
+
+// COUNTS: the pages needed are those held, which their owners confirm.
+pub fn counts(
+    state: State,
+    archive: &[u8],
+    pool: &[u8],
+    groups: &[u32],
+    table: &[u16],
+    owners: &[u32],
+    history: &[u16],
+) -> Counted
+    ensures { λ r. ⌜ Promise store COUNTS
+        (storageOf state (now (archive .entry)) (now (pool .entry)) (now (groups .entry)) (now (table .entry)) (now (owners .entry)) (now (history .entry)))
+        (counting (r .refusal) (r .live) (r .pages))
+        (storageOf state (now (archive .entry)) (now (pool .entry)) (now (groups .entry)) (now (table .entry)) (now (owners .entry)) (now (history .entry))) ⌝ }
+{
+    let lengths = storage::measure(archive, pool, groups, table, owners, history);
+    let refusal = storage::admit(state, lengths);
+    if refusal != 0 {
+        return Counted {
+            refusal,
+            live: 0,
+            pages: 0,
+        };
+    }
+    let live = frames::live(state.cmf, state.omf, state.frames);
+    let pages = pages::table::count_held(
+        groups,
+        history,
+        table,
+        owners,
+        state.lines,
+        state.frames,
+        state.omf,
+        state.pages,
+    );
+    Counted {
+        refusal: 0,
+        live,
+        pages,
+    }
+}
+
+// Whether admitted storage is well-formed.
+fn is_well(
+    state: State,
+    archive: &[u8],
+    pool: &[u8],
+    groups: &[u32],
+    table: &[u16],
+    owners: &[u32],
+    history: &[u16],
+) -> bool
+    requires { ⌜ admitted (settingsIn state) (state .cmf) (state .omf) (lengthsIn (memoryOf (now archive) (now pool) (now groups) (now table) (now owners) (now history))) 0 ≡ 0 ⌝ }
+    ensures { λ r. ⌜ Decides r (WellStore (storageOf state (now (archive .entry)) (now (pool .entry)) (now (groups .entry)) (now (table .entry)) (now (owners .entry)) (now (history .entry)))) ⌝ }
+{
+    let lines = state.lines;
+    let frames = state.frames;
+    let omf = state.omf;
+    let pages = state.pages;
+    let count = frames::live(state.cmf, omf, frames);
+    if !wellformed::bits(groups, history, lines, frames, omf, state.tag, count) {
+        return false;
+    }
+    if !wellformed::confirmed(groups, history, table, owners, lines, frames, omf, pages) {
+        return false;
+    }
+    if !wellformed::entries(state.cache, lines) {
+        return false;
+    }
+    wellformed::bytes(archive);
+    wellformed::bytes(pool);
+    wellformed::coherent(
+        state.cache,
+        archive,
+        pool,
+        groups,
+        table,
+        history,
+        lines,
+        frames,
+        omf,
+        pages,
+        count,
+    )
+}
+
+// CHECK: yes exactly if the storage is well-formed.
+pub fn check(
+    state: State,
+    archive: &[u8],
+    pool: &[u8],
+    groups: &[u32],
+    table: &[u16],
+    owners: &[u32],
+    history: &[u16],
+) -> Verdict
+    ensures { λ r. ⌜ Promise store CHECK
+        (storageOf state (now (archive .entry)) (now (pool .entry)) (now (groups .entry)) (now (table .entry)) (now (owners .entry)) (now (history .entry)))
+        (verdict (r .refusal) (r .yes))
+        (storageOf state (now (archive .entry)) (now (pool .entry)) (now (groups .entry)) (now (table .entry)) (now (owners .entry)) (now (history .entry))) ⌝ }
+{
+    let lengths = storage::measure(archive, pool, groups, table, owners, history);
+    let refusal = storage::admit(state, lengths);
+    if refusal != 0 {
+        return Verdict {
+            refusal,
+            yes: false,
+        };
+    }
+    let yes = is_well(state, archive, pool, groups, table, owners, history);
+    Verdict { refusal: 0, yes }
 }

@@ -1,19 +1,16 @@
 -- What RESET, ADVANCE and WRITE do to archive, pool, table and owners.
-use Prim.Native.Nat.{ℕ, zero, suc, _+_, _-_, _*_, _/_, _%_, _≤_, _<_, min}
-use mathlib.Core.Path.{_≡_}
+use Prim.Native.Nat.{ℕ, zero, suc, _-_, _*_, _/_, _%_, _≤_, _<_, min}
 use mathlib.Core.Bool.{cond}
 use mathlib.Core.List.{List}
 use lib.Dec.{ltb}
-use lib.ListN.{length, getD, set}
-use Rattle.rules.specs.Line.{Line}
+use lib.ListN.{length, getD}
 use Rattle.rules.specs.Seen.{needs}
-use Rattle.frames.specs.Circle.{indexOf, frameAt}
+use Rattle.frames.specs.Circle.{indexOf}
 use Rattle.frames.specs.Lists.{rewrite}
 use Rattle.frames.specs.declared.Found.{Found}
 use Rattle.frames.specs.declared.Found.the-variants.{At, Nothing}
 use Rattle.written.specs.Bits.{Written, effective, newestFrom}
-use Rattle.written.specs.Steps.{withWritten}
-use Rattle.pages.specs.Lines.{pageLine, withPageLine, withArchiveLine}
+use Rattle.pages.specs.Lines.{pageLine, withArchiveLine}
 use Rattle.pages.specs.Table.{AsksTable, heldAt, given}
 use Rattle.versions.specs.declared.Spot.{Spot}
 use Rattle.versions.specs.declared.Spot.the-variants.{Page, Archive}

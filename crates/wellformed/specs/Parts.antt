@@ -1,5 +1,5 @@
 -- The clauses of well-formedness that a function decides by itself, and what is asked of the numbers and the lent lengths.
-use Prim.Native.Nat.{ℕ, _+_, _*_, _/_, _%_, _≤_, _<_}
+use Prim.Native.Nat.{ℕ, _+_, _*_, _%_, _≤_, _<_}
 use mathlib.Core.Path.{_≡_}
 use mathlib.Core.Bool.{true, false}
 use mathlib.Core.List.{List}
@@ -9,7 +9,6 @@ use Rattle.frames.specs.Digits.{bit}
 use Rattle.cache.specs.declared.Cache.{Cache}
 use Rattle.cache.specs.Entries.{lineOf}
 use Rattle.pages.specs.Table.{AsksTable}
-use Rattle.versions.specs.declared.Version.{Version}
 use Rattle.versions.specs.Newest.{newestOf}
 use Rattle.written.specs.Bits.{Written, Lent, tagOf, effective}
 

@@ -1,0 +1,34 @@
+-- DEMAND 3 of the store, with nothing left as a parameter: whatever the state and the lent contents, after an accepted RESET every list of
+-- calls, refused ones and further resets included, gets the plain store's answers. Each step of the list is the promise that the `ensures`
+-- of the call states. Assumes nothing.
+use mathlib.Core.Path.{_≡_, subst}
+use mathlib.Core.List.{List}
+use Prim.Native.Nat.{ℕ}
+use Rattle.rules.specs.Settings.{Settings}
+use Rattle.rules.specs.Call.{Call, Answer}
+use Rattle.rules.specs.Call.Answer.{outcome}
+use Rattle.rules.specs.Call.Call.{RESET}
+use Rattle.rules.specs.Plain.{answersFrom, freshModel}
+use Rattle.rules.specs.Promise.{Promise, Run}
+use Rattle.rules.specs.Demand3.{Demand3, AnswersAsHistory}
+use Rattle.rules.proofs.Demand3.{demand-3, reached-well, answers-as-history}
+use Rattle.storage.specs.Storage.{Storage, lengthsIn, WellStore, store}
+use Rattle.storage.proofs.Figures.{lawful}
+
+pub store-demand-3 : Demand3 store
+store-demand-3 = demand-3 store lawful
+
+-- "All storage reached from RESET meets it" (the written well-formedness),
+pub store-reached : (s t u : Storage) (asked : Settings) (calls : List Call) (given : List Answer) → Promise store (RESET asked) s (outcome 0) t
+    → Run store t calls given u → WellStore u
+store-reached = reached-well store lawful
+
+-- "and storage that meets it answers as some surviving history does."
+pub store-history : AnswersAsHistory store
+store-history = answers-as-history store lawful
+
+-- Demand 3 in the form in which a caller has the refusal of its RESET.
+pub store-answers : (s t u : Storage) (asked : Settings) (calls : List Call) (given : List Answer) (n : ℕ) → n ≡ 0
+    → Promise store (RESET asked) s (outcome n) t → Run store t calls given u → given ≡ answersFrom (lengthsIn (s .memory)) (freshModel asked) calls
+store-answers s t u asked calls given n z h run =
+    store-demand-3 s t u asked calls given (subst (λ (m : ℕ). Promise store (RESET asked) s (outcome m) t) z h) run

@@ -1,0 +1,57 @@
+-- `store::is_well` meets its contract. Assumes nothing.
+use mathlib.Core.Path.{refl, sym}
+use borrow.Author.Needs.{needs}
+use Rattle.wellformed.proofs.Deciding.{part-fails}
+use Rattle.storage.proofs.Admitting.{admitted-room, room-turn, room-pages}
+use Rattle.storage.proofs.Checking.{room-bits, room-recent, bits-part, entries-part, well-decided}
+use Rattle.store.proofs.is_well.Statement.{statement}
+use Rattle.store.proofs.is_well.Tie as tie
+
+live-requires : tie.Need-live-requires
+live-requires c κs = room-turn _ _ _ _ (admitted-room _ _ _ _ _ _ (sym (c .before .before .before .before .before .before .pre)) refl)
+
+bits-requires : tie.Need-bits-requires
+bits-requires c κs = room-bits _ _ _ _ _ _ _ _ _ _ (admitted-room _ _ _ _ _ _ (sym (c .before .before .before .before .before .before .before .pre)) refl) (c .live .ensures)
+
+returns : tie.Need-returns
+returns c = part-fails _ (bits-part _ _ (c .before .before .live .ensures)) (c .before .bits .ensures) (c .if1 .taken)
+
+confirmed-requires : tie.Need-confirmed-requires
+confirmed-requires c κs = room-pages _ _ _ _ _ _ _ _ _ (admitted-room _ _ _ _ _ _ (sym (c .before .before .before .before .before .before .before .before .before .pre)) refl)
+
+returns-2 : tie.Need-returns-2
+returns-2 c = part-fails _ (λ q. q .pages) (c .before .confirmed .ensures) (c .if2 .taken)
+
+entries-requires : tie.Need-entries-requires
+entries-requires c κs = search needs
+
+returns-3 : tie.Need-returns-3
+returns-3 c = part-fails _ (entries-part _) (c .before .entries .ensures) (c .if3 .taken)
+
+bytes-requires : tie.Need-bytes-requires
+bytes-requires c κs = search needs
+
+bytes-requires-2 : tie.Need-bytes-requires-2
+bytes-requires-2 c κs = search needs
+
+coherent-requires : tie.Need-coherent-requires
+coherent-requires c κs = room-recent _ _ _ _ _ _ _ _ _ _ (admitted-room _ _ _ _ _ _ (sym (c .before .before .before .before .before .before .before .before .before .before .before .before .before .before .before .pre)) refl) (c .before .before .before .before .before .before .before .before .live .ensures)
+
+returns-4 : tie.Need-returns-4
+returns-4 c = search well-decided
+
+pub is-well-spec : {M : Type 1} → statement M
+is-well-spec =
+    tie.close
+    (tie.spec
+    live-requires
+    bits-requires
+    returns
+    confirmed-requires
+    returns-2
+    entries-requires
+    returns-3
+    bytes-requires
+    bytes-requires-2
+    coherent-requires
+    returns-4)

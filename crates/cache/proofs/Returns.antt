@@ -14,7 +14,7 @@ use Rattle.cache.specs.declared.Entry.the-variants.{Hit, Miss}
 use Rattle.cache.specs.Entries.{lineOf, frameOf, isValid, isAt, home, found, wayTaken}
 use Rattle.frames.specs.Lists.{rewrite}
 use Rattle.frames.specs.Lines.{pasteLine}
-use Rattle.cache.specs.Steps.{archive, placed, isBelow, isDropped, flagAfter, forgotten, frameAfter, collected}
+use Rattle.cache.specs.Steps.{archiveFrame, placed, isBelow, isDropped, flagAfter, forgotten, frameAfter, collected}
 
 module _ (c : Cache) (e : ℕ) where
   pub valid-one : getD (c .valid) e 0 ≡ 1 → true ≡ isValid c e
@@ -94,20 +94,20 @@ module _ (omf frames n frame : ℕ) where
   index-over i e b =
       sym (ap (λ (z : Bool). ltb frame frames && z) (le-ltb (indexOf frames omf frame) n (omega (arith, sym e))) ∙ and-false (ltb frame frames))
 
-  pub flag-archive : (flag : ℕ) → frame ≡ archive → flag ≡ flagAfter omf frames n frame flag
+  pub flag-archive : (flag : ℕ) → frame ≡ archiveFrame → flag ≡ flagAfter omf frames n frame flag
   unfolding flagAfter isDropped
-  flag-archive flag h = rw (eq-eqb frame archive h)
+  flag-archive flag h = rw (eq-eqb frame archiveFrame h)
 
   pub flag-kept : (flag : ℕ) (b : Bool) → b ≡ isBelow omf frames n frame → b ≡ true → flag ≡ flagAfter omf frames n frame flag
   unfolding flagAfter isDropped
-  flag-kept flag b e t = rw (sym e ∙ t, and-false (not (eqb frame archive)))
+  flag-kept flag b e t = rw (sym e ∙ t, and-false (not (eqb frame archiveFrame)))
 
-  pub flag-dropped : (flag : ℕ) (b : Bool) → (frame ≡ archive → ⊥) → b ≡ isBelow omf frames n frame → b ≡ false
+  pub flag-dropped : (flag : ℕ) (b : Bool) → (frame ≡ archiveFrame → ⊥) → b ≡ isBelow omf frames n frame → b ≡ false
       → 0 ≡ flagAfter omf frames n frame flag
   unfolding flagAfter isDropped
-  flag-dropped flag b h e t = rw (ne-eqb frame archive h, sym e ∙ t)
+  flag-dropped flag b h e t = rw (ne-eqb frame archiveFrame h, sym e ∙ t)
 
-  pub frame-collected : (b : Bool) → b ≡ isBelow omf frames n frame → b ≡ true → archive ≡ frameAfter omf frames n frame
+  pub frame-collected : (b : Bool) → b ≡ isBelow omf frames n frame → b ≡ true → archiveFrame ≡ frameAfter omf frames n frame
   unfolding frameAfter
   frame-collected b e t = rw (sym e ∙ t)
 

@@ -12,8 +12,8 @@ use Rattle.cache.specs.declared.Cache.{Cache}
 use Rattle.cache.specs.Entries.{frameOf, wayTaken, entryTaken}
 
 -- The frame number of an entry whose line's most recent version is the archive's.
-abbrev pub archive : ℕ
-archive = 65535
+abbrev pub archiveFrame : ℕ
+archiveFrame = 65535
 
 -- RESET: "cache empty".
 unfoldable pub emptied : Cache
@@ -40,7 +40,7 @@ isBelow omf frames n frame = ltb frame frames && ltb (indexOf frames omf frame) 
 -- invalid exactly if its line's most recent version lay in a dropped frame." A number off the circle, which no well-formed cache
 -- has, is dropped with them.
 unfoldable pub isDropped : (omf frames kept frame : ℕ) → Bool
-isDropped omf frames kept frame = not (eqb frame archive) && not (isBelow omf frames kept frame)
+isDropped omf frames kept frame = not (eqb frame archiveFrame) && not (isBelow omf frames kept frame)
 
 unfoldable pub flagAfter : (omf frames kept frame flag : ℕ) → ℕ
 flagAfter omf frames kept frame flag = cond (isDropped omf frames kept frame) 0 flag
@@ -57,7 +57,7 @@ forgotten c omf frames kept =
 
 -- The frame number of an entry after an advance over k frames: "Lines collected by ADVANCE keep their entries and count as archive."
 unfoldable pub frameAfter : (omf frames k frame : ℕ) → ℕ
-frameAfter omf frames k frame = cond (isBelow omf frames k frame) archive frame
+frameAfter omf frames k frame = cond (isBelow omf frames k frame) archiveFrame frame
 
 unfoldable pub collected : Cache → (omf frames k : ℕ) → Cache
 collected c omf frames k =

@@ -149,7 +149,7 @@ apart m n d =
     ]
 
 -- ---- a line of bytes is a line
-pub is-line : (xs : List ℕ) (at : ℕ) → at + 16 ≤ length xs → ((i : ℕ) → getD xs i 0 < 256) → IsLine (lineAt xs at)
+pub is-line : (xs : List ℕ) (at : ℕ) → at + 16 ≤ length xs → ((i : ℕ) → i < at + 16 → getD xs i 0 < 256) → IsLine (lineAt xs at)
 unfolding lineAt
 is-line xs at room small =
     let long : length (lineAt xs at) ≡ 16 = length-take-le 16 (drop at xs) (omega (arith, length-drop at xs)) in
@@ -157,7 +157,7 @@ is-line xs at room small =
       long = long;
       small = λ i.
           elim (decLt i 16) [
-            | yes h ↦ rw (getD-take 16 (drop at xs) i 0 h, getD-drop at xs i 0) (small (at + i))
+            | yes h ↦ rw (getD-take 16 (drop at xs) i 0 h, getD-drop at xs i 0) (small (at + i) (omega arith))
             | no h ↦ rw (List·getD-eq-default (lineAt xs at) 0 {n = i} (omega arith)) (omega arith)
           ];
     }

@@ -68,7 +68,8 @@ pub fn write_archive_line(archive: &mut [u8], line: u32, content: [u8; 16])
     write_page_line(archive, line / 8, line % 8, content);
 }
 
-fn wide(x: u8) -> u32
+// A byte as a wider number.
+pub fn wide(x: u8) -> u32
     ensures { λ r. ⌜ (r ≡ x) × (r < 256) ⌝ }
 {
     x as u32

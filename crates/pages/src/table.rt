@@ -1,5 +1,5 @@
 // The page table and the owners, in lent lists. Every function is safe on any contents; what the `requires` ask of numbers and lengths is
-// tested by the store, which alone calls them.
+// tested by the store; only our own crates call them.
 use frames::Found;
 ghost use mathlib.Core.Path.{_≡_};
 ghost use Prim.Native.Nat.{_-_, _≤_, _<_, min};

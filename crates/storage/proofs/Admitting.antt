@@ -166,6 +166,14 @@ module _ (s : Settings) (cmf omf : ℕ) (p : Pieces) (r : Room s cmf omf p) wher
   pub room-turn : Turn (s .frames) omf cmf
   room-turn = record { omf-below = r .fits .omf-below; below = r .fits .cmf-below; few = omega (arith, r .good .frames-to) }
 
+  pub room-archive : 16 * s .lines ≤ p .archive
+  unfolding elements
+  room-archive = r .long .archive
+
+  pub room-pool : 128 * s .pages ≤ p .pool
+  unfolding elements
+  room-pool = r .long .pool
+
   pub room-circle : Turn (s .frames) omf omf
   room-circle = record { omf-below = r .fits .omf-below; below = r .fits .omf-below; few = omega (arith, r .good .frames-to) }
 

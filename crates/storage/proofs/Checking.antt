@@ -98,20 +98,22 @@ module _ (x : Storage) (z : admittedIn x 0 ≡ 0) where
   room = admitted-room _ _ _ _ _ 0 refl z
 
   -- Lent bytes make lines.
-  archive-lines : Bytes (x .memory .archive) → (l : ℕ) → IsLine (archiveIn x l)
+  archive-lines : Bytes (16 * x .state .lines) (x .memory .archive) → (l : ℕ) → IsLine (archiveIn x l)
   unfolding archiveIn elements initial
   archive-lines bytes l = go (decLt l (x .state .lines))
     where
       go : Dec (l < x .state .lines) → IsLine (archiveIn x l)
       go (yes b) =
           subst IsLine (sym (ap (λ (t : Bool). cond t (archiveLine (x .memory .archive) l) zeros) (lt-ltb l (x .state .lines) b)))
-          (is-line (x .memory .archive) (16 * l) (omega (arith, room .long .archive)) bytes)
+          (is-line (x .memory .archive) (16 * l) (omega (arith, room .long .archive)) (λ i h. bytes i (omega arith)))
       go (no b) = subst IsLine (sym (archive-past x l (omega arith))) (initial-well (settingsIn (x .state)) (room .good) .archive-line l)
 
-  module _ (q : Findable x) (bytes : Bytes (x .memory .pool)) where
+  module _ (q : Findable x) (bytes : Bytes (128 * x .state .pages) (x .memory .pool)) where
     version-line : (i l : ℕ) → i < liveIn (x .state) → l < x .state .lines → effective (writtenIn x) i l ≡ true → IsLine (versionAt x i l)
     unfolding versionAt pageOf placeAt elements
-    version-line i l h b e = is-line (x .memory .pool) _ (omega (arith, page-known x q i l h b e, room .long .pool)) bytes
+    version-line i l h b e =
+        let p = page-known x q i l h b e in
+        is-line (x .memory .pool) _ (omega (arith, p, room .long .pool)) (λ k c. bytes k (omega (arith, p)))
 
     version-lines : (j l : ℕ) (v : Line) → frameIn x j l ≡ some v → IsLine v
     version-lines j l v e = go (decLt j (liveIn (x .state))) (decLt l (x .state .lines))
@@ -158,7 +160,7 @@ module _ (x : Storage) (z : admittedIn x 0 ≡ 0) (live : ℕ) (counted : live �
   pub well-decided : (b p c r : Bool) → Decides b (WellBits (writtenIn x) (x .state .tag) live) → not b ≡ false
       → Decides p (Confirmed (neededAt (writtenIn x)) (placesOf (writtenIn x)) (x .state .pages) (λ y. getD (x .memory .table) y 0) (λ p. getD (x .memory .owners) p 0))
       → not p ≡ false → Decides c (WellCache (settingsOf (x .state .lines) 0 0) (shown (x .state .cache))) → not c ≡ false
-      → Bytes (x .memory .archive) → Bytes (x .memory .pool) → Sized (x .state .cache) → Decides r RecentAll → Decides r (WellStore x)
+      → Bytes (16 * x .state .lines) (x .memory .archive) → Bytes (128 * x .state .pages) (x .memory .pool) → Sized (x .state .cache) → Decides r RecentAll → Decides r (WellStore x)
   well-decided b p c r bits bits-pass pages pages-pass cache cache-pass archive pool sized recent =
       record { only = λ e. well (recent .only e); always = λ q. recent .always (recent-part q) }
     where

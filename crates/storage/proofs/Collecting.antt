@@ -37,11 +37,11 @@ use Rattle.written.proofs.Finding.{version-back}
 use Rattle.pages.specs.Lines.{pageLine, archiveLine}
 use Rattle.pages.specs.Table.{placeAt}
 use Rattle.pages.proofs.Keeping.{advanced-confirmed}
-use Rattle.cache.specs.Steps.{archive, frameAfter, collected}
+use Rattle.cache.specs.Steps.{archiveFrame, frameAfter, collected}
 use Rattle.cache.specs.Shown.{shown}
 use Rattle.cache.proofs.Frames.{collected-sized, collected-shown, collected-all}
 use Rattle.cache.specs.declared.Cache.{Cache}
-use Rattle.versions.specs.Newest.{spotOf, contentOf}
+use Rattle.versions.specs.Newest.{pageOf, spotOf, contentOf}
 use Rattle.versions.specs.Steps.{folded, AsksFold}
 use Rattle.storage.specs.declared.State.{State}
 use Rattle.storage.specs.Storage.{Storage, storageOf, memoryOf, settingsIn, lengthsIn, pastIn, Recent, Coherent, liveIn, writtenIn, indexBack, frameIn, archiveIn, versionAt, latestIn, frameNumber, newestFrame, WellStore, store}
@@ -151,7 +151,7 @@ module _ (x : Storage) (q : WellStore x) (k : ℕ) (some-k : 0 < k) (low : k ≤
       ∙ ap (λ (m : ℕ). m % x .state .frames) (add-assoc (x .state .omf) k (indexBack (new .state) j) ∙ ap (λ (m : ℕ). x .state .omf + m) (index j h))
 
   collected-alike : (j l : ℕ) → j < kept → l < x .state .lines → AlikeAt new x (indexBack (new .state) j) (indexBack (x .state) j) l
-  unfolding versionAt advancedState placeAt frameAt
+  unfolding versionAt advancedState placeAt frameAt pageOf
   collected-alike j l h b =
       record {
         bit =
@@ -220,24 +220,24 @@ module _ (x : Storage) (q : WellStore x) (k : ℕ) (some-k : 0 < k) (low : k ≤
       ap₂ (λ (m : ℕ) (v : Line). versionIn m (λ j. frameIn new j l) v) live (collected-archive l)
       ∙ split-version kept k n (λ j. frameIn x j l) (λ j. frameIn new j l) (archiveIn x l) all (λ j h. stays j l h)
 
-  archive-stays : frameAfter (x .state .omf) (x .state .frames) k archive ≡ archive
+  archive-stays : frameAfter (x .state .omf) (x .state .frames) k archiveFrame ≡ archiveFrame
   unfolding frameAfter
-  archive-stays = ap (λ (t : Bool). cond t archive archive) (below-archive (x .state .frames) (x .state .omf) (good .frames-to) (fits .omf-below) k)
+  archive-stays = ap (λ (t : Bool). cond t archiveFrame archiveFrame) (below-archive (x .state .frames) (x .state .omf) (good .frames-to) (fits .omf-below) k)
 
   frame-collected : (o : Origin) → Within n o → frameAfter (x .state .omf) (x .state .frames) k (frameNumber (x .state) o) ≡ frameNumber (new .state) (first kept o)
   unfolding frameAfter frameNumber dropped advancedState
   frame-collected from-cache h = archive-stays
   frame-collected (from-frame j) h =
-      ap (λ (t : Bool). cond t archive (frameAt (x .state .frames) (x .state .omf) (n - 1 - j)))
+      ap (λ (t : Bool). cond t archiveFrame (frameAt (x .state .frames) (x .state .omf) (n - 1 - j)))
       (below-frame (x .state .frames) (x .state .omf) (good .frames-to) (fits .omf-below) k (n - 1 - j) (omega (arith, most)))
       ∙ go (decLt j kept)
     where
-      go : Dec (j < kept) → cond (ltb (n - 1 - j) k) archive (frameAt (x .state .frames) (x .state .omf) (n - 1 - j)) ≡ frameNumber (new .state) (cond (ltb j kept) (from-frame j) from-archive)
+      go : Dec (j < kept) → cond (ltb (n - 1 - j) k) archiveFrame (frameAt (x .state .frames) (x .state .omf) (n - 1 - j)) ≡ frameNumber (new .state) (cond (ltb j kept) (from-frame j) from-archive)
       go (yes b) =
-          ap (λ (t : Bool). cond t archive (frameAt (x .state .frames) (x .state .omf) (n - 1 - j))) (le-ltb (n - 1 - j) k (omega arith))
+          ap (λ (t : Bool). cond t archiveFrame (frameAt (x .state .frames) (x .state .omf) (n - 1 - j))) (le-ltb (n - 1 - j) k (omega arith))
           ∙ (sym (frame-on j b) ∙ sym (ap (λ (t : Bool). frameNumber (new .state) (cond t (from-frame j) from-archive)) (lt-ltb j kept b)))
       go (no b) =
-          ap (λ (t : Bool). cond t archive (frameAt (x .state .frames) (x .state .omf) (n - 1 - j))) (lt-ltb (n - 1 - j) k (omega arith))
+          ap (λ (t : Bool). cond t archiveFrame (frameAt (x .state .frames) (x .state .omf) (n - 1 - j))) (lt-ltb (n - 1 - j) k (omega arith))
           ∙ sym (ap (λ (t : Bool). frameNumber (new .state) (cond t (from-frame j) from-archive)) (le-ltb j kept (omega arith)))
   frame-collected from-archive h = archive-stays
 

@@ -30,6 +30,7 @@ use Rattle.written.specs.Well.{WellBits}
 use Rattle.written.proofs.Keeping.{mark-keeps}
 use Rattle.cache.specs.Entries.{lineOf}
 use Rattle.storage.specs.declared.State.{State}
+use Rattle.versions.specs.Newest.{pageOf}
 use Rattle.storage.specs.Storage.{Storage, settingsIn, lengthsIn, liveIn, writtenIn, frameIn, archiveIn, versionAt, latestIn, frameNumber, newestFrame, WellStore, store}
 use Rattle.storage.specs.Steps.{stateWith, markedState}
 use Rattle.storage.specs.Admit.{admitted}
@@ -81,7 +82,7 @@ module _ (x : Storage) (q : WellStore x) (room : liveIn (x .state) < x .state .f
       test (no h) = le-ltb (suc j) (n + 1) (omega arith) ∙ sym (le-ltb j n (omega arith))
 
   opened-frame : (j l : ℕ) → frameIn opened j l ≡ marked (figureOf store x) j l
-  unfolding frameIn marked markedState figureOf versionAt
+  unfolding frameIn marked markedState figureOf versionAt pageOf
   opened-frame zero l = ap (λ (m : ℕ). shape m 0 l) live ∙ shape-first l
   opened-frame (suc j) l = ap (λ (m : ℕ). shape m (suc j) l) live ∙ shape-next j l
 

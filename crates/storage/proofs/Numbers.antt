@@ -10,7 +10,7 @@ use Rattle.rules.specs.Call.Origin.{from-cache, from-frame, from-archive}
 use Rattle.frames.specs.Circle.{frameAt, indexOf}
 use Rattle.frames.proofs.Circle.{index-frame, frame-below}
 use Rattle.cache.specs.declared.Cache.{Cache}
-use Rattle.cache.specs.Steps.{archive, isBelow, isDropped}
+use Rattle.cache.specs.Steps.{archiveFrame, isBelow, isDropped}
 use Rattle.storage.specs.declared.State.{State}
 use Rattle.storage.specs.Storage.{frameNumber}
 use Rattle.storage.specs.Steps.{usedState}
@@ -22,14 +22,14 @@ module _ (frames omf : ℕ) (few : frames ≤ 256) (h : omf < frames) (m : ℕ) 
   below-frame i b =
       ap₂ (λ (t : Bool) (k : ℕ). t && ltb k m) (lt-ltb (frameAt frames omf i) frames (frame-below frames omf h i)) (index-frame frames omf h i b)
 
-  pub below-archive : isBelow omf frames m archive ≡ false
+  pub below-archive : isBelow omf frames m archiveFrame ≡ false
   unfolding isBelow
-  below-archive = ap (λ (t : Bool). t && ltb (indexOf frames omf archive) m) (le-ltb archive frames (omega arith))
+  below-archive = ap (λ (t : Bool). t && ltb (indexOf frames omf archiveFrame) m) (le-ltb archiveFrame frames (omega arith))
 
   pub dropped-frame : (i : ℕ) → i < frames → isDropped omf frames m (frameAt frames omf i) ≡ not (ltb i m)
   unfolding isDropped
   dropped-frame i b =
-      ap₂ (λ (s t : Bool). not s && not t) (ne-eqb (frameAt frames omf i) archive (λ e. omega (arith, frame-below frames omf h i))) (below-frame i b)
+      ap₂ (λ (s t : Bool). not s && not t) (ne-eqb (frameAt frames omf i) archiveFrame (λ e. omega (arith, frame-below frames omf h i))) (below-frame i b)
 
 -- A use of the cache leaves the frames' numbers.
 pub used-number : (s : State) (hint : ℕ) (c : Cache) (o : Origin) → frameNumber (usedState s hint c) o ≡ frameNumber s o

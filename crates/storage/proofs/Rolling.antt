@@ -35,11 +35,12 @@ use Rattle.written.proofs.Rolling.{rolled-effective, rolled-well}
 use Rattle.pages.specs.Table.{placeAt}
 use Rattle.pages.proofs.Keeping.{rolled-confirmed}
 use Rattle.cache.specs.Entries.{lineOf}
-use Rattle.cache.specs.Steps.{archive, isDropped, forgotten}
+use Rattle.cache.specs.Steps.{isDropped, forgotten}
 use Rattle.cache.specs.Shown.{shown}
 use Rattle.cache.proofs.Frames.{forgotten-sized, forgotten-shown, forgotten-all}
 use Rattle.cache.specs.declared.Cache.{Cache}
 use Rattle.storage.specs.declared.State.{State}
+use Rattle.versions.specs.Newest.{pageOf}
 use Rattle.storage.specs.Storage.{Storage, storageOf, memoryOf, settingsIn, lengthsIn, Recent, Coherent, liveIn, writtenIn, indexBack, frameIn, archiveIn, versionAt, latestIn, frameNumber, newestFrame, WellStore, store}
 use Rattle.storage.specs.Steps.{stateWith, rolledState, RolledTo}
 use Rattle.storage.specs.Admit.{admitted}
@@ -92,7 +93,7 @@ module _ (x : Storage) (q : WellStore x) (k : ℕ) (low : k ≤ liveIn (x .state
       index n = omega arith
 
   rolled-alike : (i l : ℕ) → i < kept → l < x .state .lines → AlikeAt dropped-to x i i l
-  unfolding versionAt rolledState placeAt
+  unfolding versionAt rolledState placeAt pageOf
   rolled-alike i l h b =
       record {
         bit =

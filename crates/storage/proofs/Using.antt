@@ -30,7 +30,7 @@ use Rattle.cache.proofs.Uses.{placed-sized, placed-shown, placed-all}
 use Rattle.versions.specs.declared.Spot.{Spot}
 use Rattle.versions.specs.declared.Spot.the-variants.{Page, Archive}
 use Rattle.versions.specs.declared.Version.{Version}
-use Rattle.versions.specs.Newest.{spotOf, contentOf, originOf, latestOf}
+use Rattle.versions.specs.Newest.{pageOf, spotOf, contentOf, originOf, latestOf}
 use Rattle.versions.proofs.Finding.{spot-below}
 use Rattle.storage.specs.declared.State.{State}
 use Rattle.storage.specs.Storage.{Storage, settingsIn, lengthsIn, liveIn, writtenIn, frameIn, archiveIn, versionAt, latestIn, newestFrame, Recent, WellStore, store}
@@ -54,11 +54,11 @@ module _ (x : Storage) (q : WellStore x) (l : ℕ) (b : l < x .state .lines) whe
   used-cache = placed-shown (x .state .cache) (q .sized) l (newestFrame x l) (latestIn x l) long
 
   used-newest : (m : ℕ) → newestFrame used m ≡ newestFrame x m
-  unfolding newestFrame readState usedState frameIn versionAt placeAt
+  unfolding newestFrame readState usedState frameIn versionAt placeAt pageOf
   used-newest m = used-number (x .state) (x .state .hint) (placed (x .state .cache) l (newestFrame x l) (latestIn x l)) (foundIn (liveIn (x .state)) (λ j. isWritten (frameIn x j m)))
 
   used-well : WellStore used
-  unfolding readState usedState frameIn archiveIn versionAt latestIn placeAt
+  unfolding readState usedState frameIn archiveIn versionAt latestIn placeAt pageOf
   used-well =
       record {
         fits = q .fits;
@@ -80,7 +80,7 @@ module _ (x : Storage) (w a : ℕ) where
   due = reading 0 (valueAt w (offsetOf a) (latestIn x l)) (cond (holds (shown (x .state .cache)) l) from-cache (seenOf store x .origin l))
 
   read-followed : (q : WellStore x) (b : l < x .state .lines) → Followed store (READ w a) x due (used x q l b)
-  unfolding accepted cmfStep omfStep figureStep cacheStep readState usedState frameIn archiveIn versionAt placeAt figureOf seenOf figureSeen mrv latestIn
+  unfolding accepted cmfStep omfStep figureStep cacheStep readState usedState frameIn archiveIn versionAt placeAt figureOf seenOf figureSeen mrv latestIn pageOf
   read-followed q b =
       record {
         answer = refl;

@@ -38,6 +38,7 @@ use Rattle.pages.proofs.Keeping.{place-within, effective-needed}
 use Rattle.cache.specs.Steps.{placed}
 use Rattle.cache.specs.Shown.{shown}
 use Rattle.cache.proofs.Uses.{placed-sized, placed-shown, placed-all}
+use Rattle.versions.specs.Newest.{pageOf}
 use Rattle.storage.specs.Storage.{Storage, storageOf, settingsIn, lengthsIn, liveIn, writtenIn, versionAt, frameIn, archiveIn, latestIn, frameNumber, newestFrame, Recent, Coherent, WellStore, store}
 use Rattle.storage.specs.Steps.{usedState}
 use Rattle.storage.specs.Admit.{covers}
@@ -141,7 +142,7 @@ module _ (x : Storage) (q : WellStore x) (wd a v : ℕ) (p : Placed (settingsIn 
     table-room = omega (arith, place-inside x q l b, asks-table x q l b .table-long)
 
     version-after : (i m : ℕ) → i < n → m < x .state .lines → effective w i m ≡ true → (i ≡ n - 1 → m ≡ l → ⊥) → versionAt stored i m ≡ versionAt x i m
-    unfolding versionAt usedState placeAt
+    unfolding versionAt usedState placeAt pageOf
     version-after i m h d e other = go (ℕ-discrete (spot i m) (place x q l b))
       where
         go : Dec (spot i m ≡ place x q l b)
@@ -164,7 +165,7 @@ module _ (x : Storage) (q : WellStore x) (wd a v : ℕ) (p : Placed (settingsIn 
         ∙ (ap₂ (λ (s t : Bool). effective w (n - 1) l || (s && t)) (eq-eqb (n - 1) (n - 1) refl) (eq-eqb l l refl) ∙ or-true (effective w (n - 1) l))
 
     own-version : versionAt stored (n - 1) l ≡ content
-    unfolding versionAt usedState placeAt
+    unfolding versionAt usedState placeAt pageOf
     own-version =
         ap (λ (y : ℕ). pageLine (withPageLine (x .memory .pool) page (l % 8) content) y (l % 8)) (getD-set-same (x .memory .table) (place x q l b) page 0 table-room)
         ∙ read-own (x .memory .pool) content (128 * page + 16 * (l % 8)) (omega (arith, page-room)) whole

@@ -7,6 +7,7 @@ use Rattle.rules.specs.declared.Need.{Need}
 use Rattle.rules.specs.Refusal.{unless, stateFits}
 use Rattle.storage.specs.declared.Lengths.{Lengths}
 
+-- The measured lengths as the rules have them.
 abbrev pub piecesOf : Lengths → Pieces
 piecesOf n =
     record {
@@ -40,6 +41,6 @@ covers least lengths =
     && leb (least .owners) (lengths .owners)
     && leb (least .history) (lengths .history)
 
--- 5 and 6, before the rest of a call's chain.
+-- 5 and 6, before the rest of a call's chain: the rules' `stateRefusal`, by what the code has.
 unfoldable pub admitted : Settings → (cmf omf : ℕ) → Pieces → (rest : ℕ) → ℕ
 admitted s cmf omf lengths rest = unless (stateFits s cmf omf) 5 (unless (enough s lengths) 6 rest)

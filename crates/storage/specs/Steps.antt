@@ -1,4 +1,4 @@
--- The state that each call leaves.
+-- What each call leaves of state and lent memory.
 use Prim.Native.Nat.{ℕ, _+_, _-_, _/_, _%_, _<_}
 use mathlib.Core.Path.{_≡_}
 use mathlib.Core.List.{List}
@@ -123,6 +123,7 @@ pub record Put (x : Storage) (width address value live page : ℕ) (t : Storage)
       (set (x .memory .table) (entryPlace (x .state .lines) (frameAt (x .state .frames) (x .state .omf) (live - 1)) (lineOf address)) page)
       (set (x .memory .owners) page (entryPlace (x .state .lines) (frameAt (x .state .frames) (x .state .omf) (live - 1)) (lineOf address))) (x .memory .history)
 
+-- What is asked for that: once WRITE is admitted and has its page.
 pub record AsksWrite (x : Storage) (width address live page : ℕ) : Type 0 where
   pub newest : AsksNewest (writtenIn x) (x .state .pages) live (lineOf address) (x .memory .archive) (x .memory .pool) (x .memory .table)
   pub put :

@@ -18,13 +18,14 @@ use Rattle.frames.specs.Circle.{frameAt}
 use Rattle.written.specs.Bits.{Written, writtenOf, effective}
 use Rattle.written.specs.Well.{WellBits}
 use Rattle.pages.specs.Lines.{pageLine, archiveLine}
-use Rattle.pages.specs.Table.{Confirmed, neededAt, placeAt, placesOf}
+use Rattle.pages.specs.Table.{Confirmed, neededAt, placesOf}
 use Rattle.cache.specs.Entries.{Sized, All}
-use Rattle.cache.specs.Steps.{archive}
+use Rattle.cache.specs.Steps.{archiveFrame}
 use Rattle.cache.specs.Shown.{shown}
+use Rattle.versions.specs.Newest.{pageOf}
 use Rattle.storage.specs.declared.State.{State}
 
--- The lent lists.
+-- The lent lists: "The archive is a lent memory of 16 × L bytes beside the pool of 128 × P bytes. All other lent memory ..".
 pub record Memory : Type 0 where
   pub archive : List ℕ
   pub pool : List ℕ
@@ -33,16 +34,19 @@ pub record Memory : Type 0 where
   pub owners : List ℕ
   pub history : List ℕ
 
+-- What a call is given and what it leaves: "the state and lent memory just as the call before it .. returned or left them".
 pub record Storage : Type 0 where
   pub state : State
   pub memory : Memory
 
+-- Both by their parts, in the order of the calls' parameters.
 abbrev pub memoryOf : (archive pool groups table owners history : List ℕ) → Memory
 memoryOf a p g t o h = record { archive = a; pool = p; groups = g; table = t; owners = o; history = h }
 
 abbrev pub storageOf : State → (archive pool groups table owners history : List ℕ) → Storage
 storageOf s a p g t o h = record { state = s; memory = memoryOf a p g t o h }
 
+-- The settings that the state holds.
 abbrev pub settingsIn : State → Settings
 settingsIn s = record { lines = s .lines; frames = s .frames; pages = s .pages }
 
@@ -50,9 +54,11 @@ settingsIn s = record { lines = s .lines; frames = s .frames; pages = s .pages }
 abbrev pub liveIn : State → ℕ
 liveIn s = liveFrames (s .frames) (s .cmf) (s .omf)
 
+-- The written bits and the rollback history, with what places them.
 abbrev pub writtenIn : Storage → Written
 writtenIn x = writtenOf (x .state .lines) (x .state .frames) (x .state .omf) (x .memory .groups) (x .memory .history)
 
+-- The lent lengths, in elements.
 abbrev pub lengthsIn : Memory → Pieces
 lengthsIn m =
     record {
@@ -80,10 +86,10 @@ pastIn n m =
 abbrev pub indexBack : State → ℕ → ℕ
 indexBack s j = liveIn s - 1 - j
 
--- A version in the pool: in the page of its frame and block.
+-- A version in the pool: in its slot of the page that the table names for its frame and block.
 unfoldable pub versionAt : Storage → (index line : ℕ) → Line
 versionAt x i l =
-    pageLine (x .memory .pool) (getD (x .memory .table) (placeAt (writtenIn x) (frameAt (x .state .frames) (x .state .omf) i) (l / 8)) 0) (l % 8)
+    pageLine (x .memory .pool) (pageOf (x .state .lines) (x .state .frames) (x .state .omf) (x .memory .table) i l) (l % 8)
 
 -- Figure 2's frames: a line of a live frame is written if its bit is effective.
 unfoldable pub frameIn : Storage → (back line : ℕ) → Option Line
@@ -91,18 +97,22 @@ frameIn x j l =
     cond (ltb j (liveIn (x .state)) && (ltb l (x .state .lines) && effective (writtenIn x) (indexBack (x .state) j) l))
     (some (versionAt x (indexBack (x .state) j) l)) none
 
+-- Figure 2's archive: its L lines, and nothing past them.
 unfoldable pub archiveIn : Storage → ℕ → Line
 archiveIn x l = cond (ltb l (x .state .lines)) (archiveLine (x .memory .archive) l) zeros
 
--- The most recent version of a line, and the number of the frame that has it.
+-- The most recent version of a line: Figure 2's search, from CMF back.
 unfoldable pub latestIn : Storage → ℕ → Line
 latestIn x l = versionIn (liveIn (x .state)) (λ j. frameIn x j l) (archiveIn x l)
 
+-- The number that the cache has for an origin: the frame's own, or the archive's. (A version is never sought in the cache, so that its case
+-- does not matter.)
 unfoldable pub frameNumber : State → call.Origin → ℕ
-frameNumber s from-cache = archive
+frameNumber s from-cache = archiveFrame
 frameNumber s (from-frame j) = frameAt (s .frames) (s .omf) (indexBack s j)
-frameNumber s from-archive = archive
+frameNumber s from-archive = archiveFrame
 
+-- The number of the frame that has a line's most recent version.
 unfoldable pub newestFrame : Storage → ℕ → ℕ
 newestFrame x l = frameNumber (x .state) (foundIn (liveIn (x .state)) (λ j. isWritten (frameIn x j l)))
 
@@ -121,7 +131,8 @@ pub record WellStore (x : Storage) : Type 0 where
   -- every stored bit has a tag that the history knows, and only live frames have effective ones: else a frame could open with lines that
   -- were taken back
   pub bits : WellBits (writtenIn x) (x .state .tag) (liveIn (x .state))
-  -- every needed place has its page, and the page knows it: else two lines would share their bytes
+  -- every needed place has its page, one of the P, and the page knows it: else a line's bytes would lie outside the pool, or two lines
+  -- would share them
   pub pages :
       Confirmed (neededAt (writtenIn x)) (placesOf (writtenIn x)) (x .state .pages) (λ y. getD (x .memory .table) y 0)
       (λ p. getD (x .memory .owners) p 0)
@@ -130,9 +141,9 @@ pub record WellStore (x : Storage) : Type 0 where
   -- a version and a line of the archive are 16 bytes, as the type of lent bytes has it: else no history could have written them
   pub version-line : (j l : ℕ) (v : Line) → frameIn x j l ≡ some v → IsLine v
   pub archive-line : (l : ℕ) → IsLine (archiveIn x l)
-  -- each valid entry of the cache is in its own set, once, and below L: else a line could be found twice, with different bytes,
+  -- each valid entry of the cache is in its own set, once, and below L: else a write would renew one entry of its line and leave another
   pub entries : WellCache (settingsIn (x .state)) (shown (x .state .cache))
-  -- and has its line's most recent bytes and frame: else a read that hits would be wrong, or a rollback would forget the wrong ones
+  -- and has its line's most recent bytes and frame: else a read that hits would be wrong, or a rollback would forget the wrong entries
   pub coherent : Coherent x
 
 -- The store's kind of storage, at which its functions cite the promise of `rules`.

@@ -131,10 +131,10 @@ pub fn admit_mark(state: State, lengths: Lengths) -> u32
     if refusal != 0 {
         return refusal;
     }
-    if frames::live(state.cmf, state.omf, state.frames) < state.frames {
-        return 0;
+    if state.frames <= frames::live(state.cmf, state.omf, state.frames) {
+        return 12;
     }
-    12
+    0
 }
 
 // 5, 6 and 11: the tests of ROLLBACK and ADVANCE.

@@ -391,7 +391,8 @@ pub fn mark(
     }
 }
 
-// ROLLBACK: drops the k newest frames. No written bit is cleared: the history masks them, and the next tag is free of them.
+// ROLLBACK: drops the k newest frames. No written bit is cleared, but for the sweep when the tags run out: the history masks them, and no
+// bit has the next tag.
 pub fn rollback(
     state: State,
     archive: &[u8],
@@ -508,7 +509,7 @@ pub fn counts(
         };
     }
     let live = frames::live(state.cmf, state.omf, state.frames);
-    let pages = pages::table::count_held(
+    let held = pages::table::count_held(
         groups,
         history,
         table,
@@ -521,7 +522,7 @@ pub fn counts(
     Counted {
         refusal: 0,
         live,
-        pages,
+        pages: held,
     }
 }
 
@@ -542,8 +543,8 @@ fn is_well(
     let frames = state.frames;
     let omf = state.omf;
     let pages = state.pages;
-    let count = frames::live(state.cmf, omf, frames);
-    if !wellformed::bits(groups, history, lines, frames, omf, state.tag, count) {
+    let live = frames::live(state.cmf, omf, frames);
+    if !wellformed::bits(groups, history, lines, frames, omf, state.tag, live) {
         return false;
     }
     if !wellformed::confirmed(groups, history, table, owners, lines, frames, omf, pages) {
@@ -552,8 +553,8 @@ fn is_well(
     if !wellformed::entries(state.cache, lines) {
         return false;
     }
-    wellformed::bytes(archive);
-    wellformed::bytes(pool);
+    wellformed::bytes(archive, 16 * lines);
+    wellformed::bytes(pool, 128 * pages);
     wellformed::coherent(
         state.cache,
         archive,
@@ -565,7 +566,7 @@ fn is_well(
         frames,
         omf,
         pages,
-        count,
+        live,
     )
 }
 

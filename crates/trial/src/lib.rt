@@ -6,6 +6,7 @@ ghost use mathlib.Core.List.{[], _∷_};
 ghost use Rattle.rules.specs.Sizing.{settingsOf};
 ghost use Rattle.rules.specs.Call.Answer.{outcome, reading};
 ghost use Rattle.rules.specs.Call.Call.{WRITE, MARK, ROLLBACK, READ};
+ghost use Rattle.rules.specs.Refusal.{askedRefusal};
 ghost use Rattle.rules.specs.Plain.{answersFrom, freshModel};
 ghost use Rattle.store.specs.Shown.{lentLengths, shownOrigin};
 
@@ -38,7 +39,8 @@ pub fn take_back(
     first: u32,
     second: u32,
 ) -> Trial
-    ensures { λ r. ⌜ (r .reset ≡ 0
+    ensures { λ r. ⌜ (r .reset ≡ askedRefusal (lentLengths (now (archive .entry)) (now (pool .entry)) (now (groups .entry)) (now (table .entry)) (now (owners .entry)) (now (history .entry))) (settingsOf lines frames pages))
+        × (r .reset ≡ 0
         → (outcome (r .before) ∷ outcome (r .mark) ∷ outcome (r .after) ∷ outcome (r .back) ∷ reading (r .read) (r .value) (shownOrigin (r .origin)) ∷ [])
         ≡ answersFrom (lentLengths (now (archive .entry)) (now (pool .entry)) (now (groups .entry)) (now (table .entry)) (now (owners .entry)) (now (history .entry)))
         (freshModel (settingsOf lines frames pages))

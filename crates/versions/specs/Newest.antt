@@ -18,7 +18,7 @@ use Rattle.cache.specs.declared.Cache.{Cache}
 use Rattle.cache.specs.declared.Entry.{Entry}
 use Rattle.cache.specs.declared.Entry.the-variants.{Hit, Miss}
 use Rattle.cache.specs.Entries.{found, frameOf, bytesOf}
-use Rattle.cache.specs.Steps.{archive}
+use Rattle.cache.specs.Steps.{archiveFrame}
 use Rattle.versions.specs.declared.Spot.{Spot}
 use Rattle.versions.specs.declared.Spot.the-variants.{Page, Archive}
 use Rattle.versions.specs.declared.Origin as code
@@ -48,7 +48,7 @@ contentOf archive pool l Archive = archiveLine archive l
 -- The frame's number, as the cache has it,
 unfoldable pub numberOf : (frames omf : ℕ) → Found → ℕ
 numberOf frames omf (At i) = frameAt frames omf i
-numberOf frames omf Nothing = archive
+numberOf frames omf Nothing = archiveFrame
 
 -- and READ's origin: "a frame given by how many marks back it lies (0 is CMF), or the archive".
 unfoldable pub backIn : (live : ℕ) → Found → code.Origin
@@ -95,6 +95,7 @@ pub record AsksSpot (lines frames omf line : ℕ) (found : Found) (long : ℕ) :
   pub index-below : (i : ℕ) → found ≡ At i → i < frames
   pub table-long : frames * (lines / 8) ≤ long
 
+-- and where a version stands.
 pub record AsksContent (lines pages line : ℕ) (spot : Spot) (archive pool : ℕ) : Type 0 where
   pub lines-by : lines % 8 ≡ 0
   pub lines-few : lines ≤ 4096

@@ -7,7 +7,6 @@ use native.Mathlib.Decide.{decLt, ℕ-discrete}
 use native.Mathlib.Omega.{arith}
 use lib.ListN.{length, getD, List·getD-eq-default}
 use Rattle.wellformed.specs.Decision.{Decides}
-use Rattle.wellformed.specs.Parts.{Bytes}
 
 pub says-yes : {P : Type 0} → P → Decides true P
 says-yes p = record { only = λ e. p; always = λ q. refl }
@@ -40,7 +39,3 @@ all-next P n h p k b = elim (ℕ-discrete k n) [ yes e ↦ subst P (sym e) p | n
 
 pub all-end : (P : ℕ → Type 0) (n m : ℕ) → AllBelow m P → n ≤ m → AllBelow n P
 all-end P n m h b k c = h k (omega arith)
-
--- Every element of a list is a byte, read one after the other; past its end there are none.
-pub bytes-end : (xs : List ℕ) (n : ℕ) → AllBelow n (λ k. getD xs k 0 < 256) → length xs ≤ n → Bytes xs
-bytes-end xs n h b i = elim (decLt i (length xs)) [ yes c ↦ h i (omega arith) | no c ↦ omega (arith, List·getD-eq-default xs 0 {n = i} (omega arith)) ]

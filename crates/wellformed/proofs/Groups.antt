@@ -19,7 +19,8 @@ use Rattle.written.specs.Well.{WellBits}
 use Rattle.written.proofs.Blocks.{false-from, true-from}
 use Rattle.written.proofs.Runs.{both-of}
 use Rattle.wellformed.specs.Decision.{Decides}
-use Rattle.wellformed.specs.Parts.{TagsKnown, OnlyLive, AsksBits}
+use Rattle.written.specs.Well.{TagsKnown, OnlyLive}
+use Rattle.wellformed.specs.Parts.{AsksBits}
 use Rattle.wellformed.proofs.Deciding.{says-yes, says-no, passes, AllBelow}
 
 -- A group that has no bit set, or a tag that is in use.
@@ -53,12 +54,12 @@ module _ (w : Written) (live : ℕ) where
   pub live-asks : (block : ℕ) → AsksBits w live → block < w .lines / 8 → AsksBlock w block (w .frames)
   live-asks block a b = record { lent = a .lent; block-below = omega (arith, b); end-within = omega arith }
 
-  pub live-fails : (block : ℕ) (r : Bool) → block < w .lines / 8 → r ≡ blockHas w block live (w .frames) → r ≡ true → Decides false (OnlyLive w live)
+  pub live-fails : (block from : ℕ) (r : Bool) → live ≤ from → block < w .lines / 8 → r ≡ blockHas w block from (w .frames) → r ≡ true → Decides false (OnlyLive w live)
   unfolding blockHas
-  live-fails block r b e t =
-      let n = any-found 8 (λ n. anyFrom live (w .frames) (λ i. effective w i (block * 8 + n))) (sym e ∙ t) in
-      let k = true-from live (w .frames) (λ i. effective w i (block * 8 + n .0)) (n .2) in
-      says-no (λ h. false≢true (sym (h (k .0) (block * 8 + n .0) (k .1) (k .2) (omega (arith, n .1))) ∙ k .3))
+  live-fails block from r low b e t =
+      let n = any-found 8 (λ n. anyFrom from (w .frames) (λ i. effective w i (block * 8 + n))) (sym e ∙ t) in
+      let k = true-from from (w .frames) (λ i. effective w i (block * 8 + n .0)) (n .2) in
+      says-no (λ h. false≢true (sym (h (k .0) (block * 8 + n .0) (omega (arith, k .1)) (k .2) (omega (arith, n .1))) ∙ k .3))
 
   pub live-end : (n : ℕ) → AsksBits w live → AllBelow n Still → w .lines / 8 ≤ n → Decides true (OnlyLive w live)
   unfolding blockHas

@@ -12,15 +12,6 @@ use Rattle.pages.specs.Table.{AsksTable}
 use Rattle.versions.specs.Newest.{newestOf}
 use Rattle.written.specs.Bits.{Written, Lent, tagOf, effective}
 
--- Every group with a bit set has a tag that is in use.
-abbrev pub TagsKnown : (count tag : ℕ) → List ℕ → Type 0
-TagsKnown count tag groups =
-    (at q : ℕ) → at < count → q < 16 → bit (getD groups at 0) q ≡ true → tagOf (getD groups at 0) ≤ tag
-
--- Only live frames have effective bits.
-abbrev pub OnlyLive : Written → (live : ℕ) → Type 0
-OnlyLive w live = (k l : ℕ) → live ≤ k → k < w .frames → l < w .lines → effective w k l ≡ false
-
 -- A set of the cache whose valid entries are in it and below L, and not both with one line.
 pub record SetWell (lines : ℕ) (c : Cache) (set : ℕ) : Type 0 where
   pub first : getD (c .valid) (2 * set) 0 ≡ 1 → (lineOf c (2 * set) % 16 ≡ set) × (lineOf c (2 * set) < lines)
@@ -32,15 +23,17 @@ abbrev pub RecentIn : Written → (pages live : ℕ) → (archive pool table : L
 RecentIn w pages live archive pool table l frame bytes =
     (l < w .lines) × (bytes ≡ newestOf w pages live archive pool table l .content) × (frame ≡ newestOf w pages live archive pool table l .frame)
 
--- Every element is a byte.
-abbrev pub Bytes : List ℕ → Type 0
-Bytes xs = (i : ℕ) → getD xs i 0 < 256
+-- The first n elements are bytes.
+abbrev pub Bytes : ℕ → List ℕ → Type 0
+Bytes n xs = (i : ℕ) → i < n → getD xs i 0 < 256
 
+-- What is asked to decide the written bits' share,
 pub record AsksBits (w : Written) (live : ℕ) : Type 0 where
   pub lent : Lent w
   pub lines-by : w .lines % 8 ≡ 0
   pub live-within : live ≤ w .frames
 
+-- and the cache's.
 pub record AsksRecent (w : Written) (pages live : ℕ) (archive pool table : List ℕ) : Type 0 where
   pub asks : AsksTable w table
   pub frames-few : w .frames ≤ 256

@@ -10,12 +10,12 @@ ghost use Rattle.rules.specs.Sizing.{settingsOf};
 ghost use Rattle.rules.specs.Figure3.{WellCache};
 ghost use Rattle.written.specs.Bits.{writtenOf};
 ghost use Rattle.written.specs.Steps.{Ordered};
-ghost use Rattle.written.specs.Well.{WellBits};
+ghost use Rattle.written.specs.Well.{TagsKnown, OnlyLive, WellBits};
 ghost use Rattle.pages.specs.Table.{AsksTable, Confirmed, neededAt, placesOf};
 ghost use Rattle.cache.specs.Entries.{Sized, All};
 ghost use Rattle.cache.specs.Shown.{shown};
 ghost use Rattle.wellformed.specs.Decision.{Decides};
-ghost use Rattle.wellformed.specs.Parts.{TagsKnown, OnlyLive, SetWell, RecentIn, Bytes, AsksBits, AsksRecent};
+ghost use Rattle.wellformed.specs.Parts.{SetWell, RecentIn, Bytes, AsksBits, AsksRecent};
 
 // Whether every group with a bit set has a tag up to the current one.
 fn tags_known(groups: &[u32], count: u32, tag: u32) -> bool
@@ -330,20 +330,14 @@ pub fn coherent(
     true
 }
 
-fn wide(b: u8) -> u32
-    ensures { λ r. ⌜ (r ≡ b) × (b < 256) ⌝ }
+// Reads the first bytes of a lent piece: each is one, as its type says, and the loop is what tells the prover.
+pub fn bytes(list: &[u8], count: u32)
+    requires { ⌜ count ≤ length (now list) ⌝ }
+    ensures { λ _. ⌜ Bytes count (now (list .entry)) ⌝ }
 {
-    b as u32
-}
-
-// Reads every byte of a lent piece: each is one, as its type says, and the loop is what tells the prover.
-pub fn bytes(list: &[u8])
-    ensures { λ _. ⌜ Bytes (now (list .entry)) ⌝ }
-{
-    let count = list.len();
     let mut i = 0;
     while i < count {
-        wide(list[i]);
+        pages::lines::wide(list[i as usize]);
         i = i + 1;
     }
 }

@@ -1,5 +1,6 @@
 -- `storage::admit_mark` meets its contract. Assumes nothing.
 use borrow.Author.Needs.{needs}
+use native.Mathlib.Omega.{arith}
 use Rattle.storage.proofs.Admitting.{admitted-room, room-turn}
 use Rattle.storage.proofs.Chains.{admitted-turned, mark-passes, mark-past}
 use Rattle.storage.proofs.admit_mark.Statement.{statement}
@@ -15,10 +16,10 @@ live-requires : tie.Need-live-requires
 live-requires c κs = room-turn _ _ _ _ (admitted-room _ _ _ _ _ _ (c .before .admit .ensures) (c .if1 .left))
 
 returns-2 : tie.Need-returns-2
-returns-2 c = search mark-passes
+returns-2 c = mark-past _ _ _ _ _ (c .before .before .before .before .admit .ensures) (c .before .before .before .if1 .left) _ _ (c .before .before .live .ensures) (omega (arith, c .if2 .taken))
 
 returns-3 : tie.Need-returns-3
-returns-3 c = search mark-past
+returns-3 c = mark-passes _ _ _ _ _ (c .before .before .before .before .admit .ensures) (c .before .before .before .if1 .left) _ _ (c .before .before .live .ensures) (omega (arith, c .if2 .left))
 
 pub admit-mark-spec : {M : Type 1} → statement M
 admit-mark-spec = tie.close (tie.spec admit-requires returns live-requires returns-2 returns-3)

@@ -1,8 +1,9 @@
 -- `store::is_well` meets its contract. Assumes nothing.
 use mathlib.Core.Path.{refl, sym}
 use borrow.Author.Needs.{needs}
+use native.Mathlib.Omega.{arith}
 use Rattle.wellformed.proofs.Deciding.{part-fails}
-use Rattle.storage.proofs.Admitting.{admitted-room, room-turn, room-pages}
+use Rattle.storage.proofs.Admitting.{admitted-room, room-turn, room-archive, room-pool, room-pages}
 use Rattle.storage.proofs.Checking.{room-bits, room-recent, bits-part, entries-part, well-decided}
 use Rattle.store.proofs.is_well.Statement.{statement}
 use Rattle.store.proofs.is_well.Tie as tie
@@ -28,11 +29,21 @@ entries-requires c κs = search needs
 returns-3 : tie.Need-returns-3
 returns-3 c = part-fails _ (entries-part _) (c .before .entries .ensures) (c .if3 .taken)
 
+mul-bytes : tie.Need-mul-bytes
+mul-bytes c =
+    let g = admitted-room _ _ _ _ _ _ (sym (c .before .before .before .before .before .before .before .before .before .before .before .before .before .pre)) refl in
+    omega (arith, g .good .lines-to)
+
 bytes-requires : tie.Need-bytes-requires
-bytes-requires c κs = search needs
+bytes-requires c κs = room-archive _ _ _ _ (admitted-room _ _ _ _ _ _ (sym (c .before .before .before .before .before .before .before .before .before .before .before .before .before .pre)) refl)
+
+mul-bytes-2 : tie.Need-mul-bytes-2
+mul-bytes-2 c =
+    let g = admitted-room _ _ _ _ _ _ (sym (c .before .before .before .before .before .before .before .before .before .before .before .before .before .before .pre)) refl in
+    omega (arith, g .good .pages-to)
 
 bytes-requires-2 : tie.Need-bytes-requires-2
-bytes-requires-2 c κs = search needs
+bytes-requires-2 c κs = room-pool _ _ _ _ (admitted-room _ _ _ _ _ _ (sym (c .before .before .before .before .before .before .before .before .before .before .before .before .before .before .pre)) refl)
 
 coherent-requires : tie.Need-coherent-requires
 coherent-requires c κs = room-recent _ _ _ _ _ _ _ _ _ _ (admitted-room _ _ _ _ _ _ (sym (c .before .before .before .before .before .before .before .before .before .before .before .before .before .before .before .pre)) refl) (c .before .before .before .before .before .before .before .before .live .ensures)
@@ -51,7 +62,9 @@ is-well-spec =
     returns-2
     entries-requires
     returns-3
+    mul-bytes
     bytes-requires
+    mul-bytes-2
     bytes-requires-2
     coherent-requires
     returns-4)

@@ -3,7 +3,7 @@ use Prim.Native.Nat.{_-_, _<_}
 use lib.ListN.{getD}
 use borrow.Author.Needs.{needs}
 use native.Mathlib.Omega.{arith}
-use Rattle.wellformed.proofs.Deciding.{AllBelow, all-start, all-next, bytes-end}
+use Rattle.wellformed.proofs.Deciding.{AllBelow, all-start, all-next, all-end}
 use Rattle.wellformed.proofs.bytes.Statement.{statement}
 use Rattle.wellformed.proofs.bytes.Tie as tie
 
@@ -16,23 +16,26 @@ abbrev μ-loop : tie.MeasureT-loop
 loop-holds : tie.Need-loop-holds Inv-loop μ-loop
 loop-holds c = all-start _
 
+cast-wide : tie.Need-cast-wide Inv-loop μ-loop
+cast-wide c = search needs
+
 shared-slice-read-wide : tie.Need-shared-slice-read-wide Inv-loop μ-loop
-shared-slice-read-wide c = omega arith
+shared-slice-read-wide c = search needs
 
 wide-requires : tie.Need-wide-requires Inv-loop μ-loop
 wide-requires c κs = search needs
 
 add-i : tie.Need-add-i Inv-loop μ-loop
-add-i c = omega arith
+add-i c = search needs
 
 loop-less : tie.Need-loop-less Inv-loop μ-loop
 loop-less c = omega arith
 
 loop-again : tie.Need-loop-again Inv-loop μ-loop
-loop-again c = all-next _ _ (c .before .before .before .loop .inv) (c .wide .ensures .1)
+loop-again c = all-next _ _ (c .before .before .before .loop .inv) (omega (arith, c .wide .ensures .0, c .wide .ensures .1))
 
 returns : tie.Need-returns Inv-loop μ-loop
-returns c = bytes-end (c .before .before .before .args .list .now) _ (c .before .loop .inv) (c .loop-test .left)
+returns c = all-end _ _ _ (c .before .loop .inv) (c .loop-test .left)
 
 pub bytes-spec : {M : Type 1} → statement M
 bytes-spec =
@@ -41,6 +44,7 @@ bytes-spec =
     Inv-loop
     μ-loop
     loop-holds
+    cast-wide
     shared-slice-read-wide
     wide-requires
     add-i

@@ -22,7 +22,7 @@ block-has-requires : tie.Need-block-has-requires Inv-loop μ-loop
 block-has-requires c κs = live-asks _ _ _ (c .before .before .before .before .pre) (c .loop-test .taken)
 
 returns : tie.Need-returns Inv-loop μ-loop
-returns c = search live-fails
+returns c = live-fails _ _ _ _ _ (omega arith) (c .before .before .loop-test .taken) (c .before .block-has .ensures) (c .if1 .taken)
 
 add-block : tie.Need-add-block Inv-loop μ-loop
 add-block c = search needs

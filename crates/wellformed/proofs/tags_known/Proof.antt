@@ -34,7 +34,7 @@ enum-told : tie.Need-enum-told Inv-loop μ-loop
 enum-told c = search needs
 
 returns : tie.Need-returns Inv-loop μ-loop
-returns c = search tag-over
+returns c = tag-over _ _ (c .before .before .before .before .before .before .before .before .args .groups .now) _ _ _ (c .before .before .before .before .before .loop-test .taken) (c .before .before .before .newest-bit .ensures) (c .before .enum-told .given .1) (omega (arith, c .if1 .taken))
 
 enum-told-2 : tie.Need-enum-told-2 Inv-loop μ-loop
 enum-told-2 c = search needs

@@ -40,7 +40,7 @@ replicate-small zero i = omega arith
 replicate-small (suc n) zero = omega arith
 replicate-small (suc n) (suc i) = replicate-small n i
 
-zeros-line : IsLine zeros
+pub zeros-line : IsLine zeros
 unfolding zeros
 zeros-line = record { long = refl; small = replicate-small 16 }
 

@@ -16,8 +16,8 @@ use Rattle.rules.proofs.Demand3.{demand-3, reached-well, answers-as-history}
 use Rattle.storage.specs.Storage.{Storage, lengthsIn, WellStore, store}
 use Rattle.storage.proofs.Figures.{lawful}
 
--- The number of an answer that has nothing else.
-numberIn : Answer → ℕ
+-- The refusal, or 0, that stands in an answer. (LINE's has none.)
+unfoldable pub numberIn : Answer → ℕ
 numberIn (outcome n) = n
 numberIn (reading n v o) = n
 numberIn (lending x) = 0

@@ -23,7 +23,7 @@ pub struct Trial {
     pub origin: Origin,
 }
 
-// Writes a value to an empty store, marks it, writes another one over it, takes that back and reads.
+// Writes a value to an empty store, marks it, writes another one over it, takes that back and reads: what was taken back is gone.
 pub fn take_back(
     state: State,
     archive: &mut [u8],
@@ -44,7 +44,8 @@ pub fn take_back(
         → (outcome (r .before) ∷ outcome (r .mark) ∷ outcome (r .after) ∷ outcome (r .back) ∷ reading (r .read) (r .value) (shownOrigin (r .origin)) ∷ [])
         ≡ answersFrom (lentLengths (now (archive .entry)) (now (pool .entry)) (now (groups .entry)) (now (table .entry)) (now (owners .entry)) (now (history .entry)))
         (freshModel (settingsOf lines frames pages))
-        (WRITE 4 address first ∷ MARK ∷ WRITE 4 address second ∷ ROLLBACK 1 ∷ READ 4 address ∷ [])) ⌝ }
+        (WRITE 4 address first ∷ MARK ∷ WRITE 4 address second ∷ ROLLBACK 1 ∷ READ 4 address ∷ []))
+        × (r .reset ≡ 0 → r .before ≡ 0 → r .mark ≡ 0 → r .after ≡ 0 → r .back ≡ 0 → r .read ≡ 0 → r .value ≡ first) ⌝ }
 {
     let reset = store::reset(
         state,

@@ -211,7 +211,7 @@ fn is_set_well(cache: Cache, lines: u32, set: u32) -> bool
     true
 }
 
-// Whether each valid entry of the cache is in its own set, once, and below L.
+// Whether each valid entry of the cache is in its own set, once, and below L. (Of the settings only L matters.)
 pub fn entries(cache: Cache, lines: u32) -> bool
     ensures { λ r. ⌜ Decides r (WellCache (settingsOf lines 0 0) (shown cache)) ⌝ }
 {

@@ -10,15 +10,12 @@ use borrow.Author.Tests.{lt-ltb, le-ltb, le-leb, lt-leb}
 use lib.Dec.{ltb, leb}
 use lib.ListN.{length, getD, set}
 use lib.Seq.{set-getD}
-use Rattle.rules.specs.Settings.{elements, enough}
+use Rattle.rules.specs.Settings.{elements}
 use Rattle.rules.specs.Seen.{needs, count}
 use Rattle.rules.specs.Refusal.{liveFrames}
 use Rattle.rules.specs.Figure2.{isWritten, figureSeen}
 use Rattle.rules.specs.Promise.{figureOf, seenOf}
 use Rattle.rules.proofs.Count.{any-same}
-use Rattle.rules.proofs.Settings.{Good, within-good}
-use Rattle.rules.proofs.Promise.{Fits, fits-facts}
-use Rattle.rules.proofs.Circle.{live-some, live-at-most}
 use Rattle.frames.specs.Circle.{indexOf, frameAt}
 use Rattle.frames.specs.declared.Found.{Found}
 use Rattle.frames.specs.declared.Found.the-variants.{At, Nothing}
@@ -31,9 +28,8 @@ use Rattle.pages.proofs.Claiming.{free-of, one-page, given-free, given-none}
 use Rattle.pages.proofs.Keeping.{needed-place, place-within, set-confirmed, claimed-confirmed}
 use Rattle.versions.specs.Newest.{entryPlace}
 use Rattle.versions.specs.Steps.{pageFor}
-use Rattle.storage.specs.Storage.{Storage, settingsIn, lengthsIn, liveIn, writtenIn, frameIn, WellStore, store}
-use Rattle.storage.specs.Admit.{covers}
-use Rattle.storage.proofs.Admitting.{Long, covers-long}
+use Rattle.storage.specs.Storage.{Storage, liveIn, writtenIn, frameIn, WellStore, store}
+use Rattle.storage.proofs.Limits.{Limits, limits, lent-long}
 use Rattle.storage.proofs.Counting.{written-effective, pages-counted}
 
 -- What a search gave.
@@ -74,17 +70,8 @@ module _ (x : Storage) (q : WellStore x) (l : ℕ) (b : l < x .state .lines) whe
   abbrev w : Written
   w = writtenIn x
 
-  fits : Fits (settingsIn (x .state)) (x .state .cmf) (x .state .omf)
-  fits = fits-facts (settingsIn (x .state)) (x .state .cmf) (x .state .omf) (q .fits)
-
-  good : Good (settingsIn (x .state))
-  good = within-good (settingsIn (x .state)) (fits .limits)
-
-  pub most : n ≤ x .state .frames
-  most = live-at-most (x .state .frames) (x .state .cmf) (x .state .omf) (fits .cmf-below) (fits .omf-below)
-
-  pub some-live : 0 < n
-  some-live = live-some (x .state .frames) (x .state .cmf) (x .state .omf) (fits .cmf-below) (fits .omf-below)
+  abbrev lim : Limits x
+  lim = limits x (q .fits)
 
   -- CMF is the newest live frame
   pub cmf-index : indexOf (x .state .frames) (x .state .omf) (x .state .cmf) ≡ n - 1
@@ -95,24 +82,24 @@ module _ (x : Storage) (q : WellStore x) (l : ℕ) (b : l < x .state .lines) whe
       last m = omega arith
 
   pub cmf-frame : frameAt (x .state .frames) (x .state .omf) (n - 1) ≡ x .state .cmf
-  cmf-frame = ap (frameAt (x .state .frames) (x .state .omf)) (sym cmf-index) ∙ frame-index (x .state .frames) (x .state .omf) (fits .omf-below) (x .state .cmf) (fits .cmf-below)
+  cmf-frame = ap (frameAt (x .state .frames) (x .state .omf)) (sym cmf-index) ∙ frame-index (x .state .frames) (x .state .omf) (lim .fits .omf-below) (x .state .cmf) (lim .fits .cmf-below)
 
   block : l / 8 < x .state .lines / 8
-  block = omega (arith, good .lines-by)
+  block = omega (arith, lim .good .lines-by)
 
   abbrev pub place : ℕ
   place = placeAt w (frameAt (x .state .frames) (x .state .omf) (n - 1)) (l / 8)
 
   pub place-inside : place < placesOf w
-  place-inside = place-within w (frameAt (x .state .frames) (x .state .omf) (n - 1)) (l / 8) (frame-below (x .state .frames) (x .state .omf) (fits .omf-below) (n - 1)) block
+  place-inside = place-within w (frameAt (x .state .frames) (x .state .omf) (n - 1)) (l / 8) (frame-below (x .state .frames) (x .state .omf) (lim .fits .omf-below) (n - 1)) block
 
   -- the block is needed in CMF just if its place is
   pub current-needed : seenOf store x .current (l / 8) ≡ neededAt w place
   unfolding seenOf figureSeen figureOf needs
   current-needed =
       any-same 8 (λ i. isWritten (frameIn x 0 (l / 8 * 8 + i))) (λ i. effective w (n - 1) (l / 8 * 8 + i))
-      (λ i c. sym (written-effective x 0 (l / 8 * 8 + i) some-live (omega (arith, block, good .lines-by))) ∙ ap (λ (k : ℕ). effective w k (l / 8 * 8 + i)) (none-off (n - 1)))
-      ∙ sym (needed-place w (frameAt (x .state .frames) (x .state .omf) (n - 1)) (l / 8) block ∙ ap (λ (k : ℕ). needs (effective w k) (l / 8)) (index-frame (x .state .frames) (x .state .omf) (fits .omf-below) (n - 1) (omega (arith, some-live, most))))
+      (λ i c. sym (written-effective x 0 (l / 8 * 8 + i) (lim .live-some) (omega (arith, block, lim .good .lines-by))) ∙ ap (λ (k : ℕ). effective w k (l / 8 * 8 + i)) (none-off (n - 1)))
+      ∙ sym (needed-place w (frameAt (x .state .frames) (x .state .omf) (n - 1)) (l / 8) block ∙ ap (λ (k : ℕ). needs (effective w k) (l / 8)) (index-frame (x .state .frames) (x .state .omf) (lim .fits .omf-below) (n - 1) (omega (arith, lim .live-some, lim .live-most))))
     where
       none-off : (m : ℕ) → m - 0 ≡ m
       none-off m = omega arith
@@ -126,7 +113,7 @@ module _ (x : Storage) (q : WellStore x) (l : ℕ) (b : l < x .state .lines) whe
   entry-place = ap (λ (f : ℕ). f * (x .state .lines / 8) + l / 8) (sym cmf-frame)
 
   asks : Asks w l (n - 1)
-  asks = record { lent = q .bits .lent; line-below = b; index-below = omega (arith, some-live, most) }
+  asks = record { lent = q .bits .lent; line-below = b; index-below = omega (arith, lim .live-some, lim .live-most) }
 
   abbrev pub after-bit : Written
   after-bit = writtenOf (x .state .lines) (x .state .frames) (x .state .omf) (withWritten w (x .state .tag) l (n - 1)) (x .memory .history)
@@ -157,17 +144,13 @@ module _ (x : Storage) (q : WellStore x) (l : ℕ) (b : l < x .state .lines) whe
   counted =
       sym (held-count (neededAt w) (x .state .pages) (λ y. getD (x .memory .table) y 0) (λ r. getD (x .memory .owners) r 0) (placesOf w) (q .pages)) ∙ pages-counted x q
 
-  long : Long (elements (settingsIn (x .state))) (lengthsIn (x .memory))
-  unfolding enough covers
-  long = covers-long (elements (settingsIn (x .state))) (lengthsIn (x .memory)) (q .long)
-
   owners-long : x .state .pages ≤ length (x .memory .owners)
   unfolding elements
-  owners-long = long .owners
+  owners-long = lent-long x (q .long) .owners
 
   pub asks-table : AsksTable w (x .memory .table)
   unfolding elements
-  asks-table = record { lent = q .bits .lent; lines-by = good .lines-by; lines-from = good .lines-from; table-long = long .table }
+  asks-table = record { lent = q .bits .lent; lines-by = lim .good .lines-by; lines-from = lim .good .lines-from; table-long = lent-long x (q .long) .table }
 
   chosen-own : neededAt w place ≡ true → Chosen (getD (x .memory .table) place 0)
   chosen-own e =

@@ -22,10 +22,9 @@ use Rattle.rules.specs.Refusal.{markedRefusal, stateRefusal, refusal, noPage}
 use Rattle.rules.specs.Figure2.{figureStep, cmfStep, omfStep, omrv, versionIn, foundIn, isWritten}
 use Rattle.rules.specs.Figure3.{WellCache, cacheStep}
 use Rattle.rules.specs.Promise.{Promise, Followed, factsOf, target, WellFigure, figureOf}
-use Rattle.rules.proofs.Settings.{Good, within-good}
-use Rattle.rules.proofs.Promise.{Fits, fits-facts, facts-fit}
+use Rattle.rules.proofs.Promise.{facts-fit}
 use Rattle.rules.proofs.WellSteps.{advance-well}
-use Rattle.rules.proofs.Circle.{live-advance, live-at-most}
+use Rattle.rules.proofs.Circle.{live-advance}
 use Rattle.frames.specs.Circle.{frameAt}
 use Rattle.frames.specs.Search.{greatest}
 use Rattle.frames.proofs.Search.{greatest-found}
@@ -46,8 +45,9 @@ use Rattle.versions.specs.Steps.{folded, AsksFold}
 use Rattle.storage.specs.declared.State.{State}
 use Rattle.storage.specs.Storage.{Storage, storageOf, memoryOf, settingsIn, lengthsIn, pastIn, Recent, Coherent, liveIn, writtenIn, indexBack, frameIn, archiveIn, versionAt, latestIn, frameNumber, newestFrame, WellStore, store}
 use Rattle.storage.specs.Steps.{stateWith, advancedState, AdvancedTo}
-use Rattle.storage.specs.Admit.{admitted, covers}
-use Rattle.storage.proofs.Admitting.{Long, covers-long, room-table}
+use Rattle.storage.specs.Admit.{admitted}
+use Rattle.storage.proofs.Limits.{Limits, limits, lent-long}
+use Rattle.storage.proofs.Admitting.{Long, room-table}
 use Rattle.storage.proofs.Chains.{FramesRoom, frames-room}
 use Rattle.storage.proofs.Looking.{admittedIn, turned-down, let-through}
 use Rattle.storage.proofs.Figures.{AlikeAt, frames-alike, frame-at, frame-live, archive-past, well-figure, step-versions, step-archive}
@@ -114,28 +114,21 @@ module _ (x : Storage) (q : WellStore x) (k : ℕ) (some-k : 0 < k) (low : k ≤
   abbrev new : Storage
   new = collected-to x k
 
-  fits : Fits (settingsIn (x .state)) (x .state .cmf) (x .state .omf)
-  fits = fits-facts (settingsIn (x .state)) (x .state .cmf) (x .state .omf) (q .fits)
-
-  good : Good (settingsIn (x .state))
-  good = within-good (settingsIn (x .state)) (fits .limits)
-
-  most : n ≤ x .state .frames
-  most = live-at-most (x .state .frames) (x .state .cmf) (x .state .omf) (fits .cmf-below) (fits .omf-below)
+  abbrev lim : Limits x
+  lim = limits x (q .fits)
 
   below : k < x .state .frames
-  below = omega (arith, most)
+  below = omega (arith, lim .live-most)
 
   all : n ≡ kept + k
   all = omega arith
 
   live : liveIn (new .state) ≡ kept
   unfolding advancedState
-  live = live-advance (x .state .frames) (x .state .cmf) (x .state .omf) (fits .cmf-below) (fits .omf-below) k low
+  live = live-advance (x .state .frames) (x .state .cmf) (x .state .omf) (lim .fits .cmf-below) (lim .fits .omf-below) k low
 
   long : Long (elements (settingsIn (x .state))) (lengthsIn (x .memory))
-  unfolding covers enough
-  long = covers-long (elements (settingsIn (x .state))) (lengthsIn (x .memory)) (q .long)
+  long = lent-long x (q .long)
 
   -- ---- frames: those that stay have their index less k
   index : (j : ℕ) → j < kept → k + indexBack (new .state) j ≡ indexBack (x .state) j
@@ -155,9 +148,9 @@ module _ (x : Storage) (q : WellStore x) (k : ℕ) (some-k : 0 < k) (low : k ≤
   collected-alike j l h b =
       record {
         bit =
-            advanced-effective (writtenIn x) (q .bits .lent) k below (indexBack (new .state) j) l (omega (arith, index j h, most)) b
+            advanced-effective (writtenIn x) (q .bits .lent) k below (indexBack (new .state) j) l (omega (arith, index j h, lim .live-most)) b
             ∙ (ap (λ (i : ℕ). ltb i (x .state .frames) && effective (writtenIn x) i l) (index j h)
-            ∙ ap (λ (t : Bool). t && effective (writtenIn x) (indexBack (x .state) j) l) (lt-ltb (indexBack (x .state) j) (x .state .frames) (omega (arith, most))));
+            ∙ ap (λ (t : Bool). t && effective (writtenIn x) (indexBack (x .state) j) l) (lt-ltb (indexBack (x .state) j) (x .state .frames) (omega (arith, lim .live-most))));
         version = λ _. ap (λ (f : ℕ). pageLine (x .memory .pool) (getD (x .memory .table) (f * (x .state .lines / 8) + l / 8) 0) (l % 8)) (frame-on j h);
       }
 
@@ -222,14 +215,14 @@ module _ (x : Storage) (q : WellStore x) (k : ℕ) (some-k : 0 < k) (low : k ≤
 
   archive-stays : frameAfter (x .state .omf) (x .state .frames) k archiveFrame ≡ archiveFrame
   unfolding frameAfter
-  archive-stays = ap (λ (t : Bool). cond t archiveFrame archiveFrame) (below-archive (x .state .frames) (x .state .omf) (good .frames-to) (fits .omf-below) k)
+  archive-stays = ap (λ (t : Bool). cond t archiveFrame archiveFrame) (below-archive (x .state .frames) (x .state .omf) (lim .good .frames-to) (lim .fits .omf-below) k)
 
   frame-collected : (o : Origin) → Within n o → frameAfter (x .state .omf) (x .state .frames) k (frameNumber (x .state) o) ≡ frameNumber (new .state) (first kept o)
   unfolding frameAfter frameNumber dropped advancedState
   frame-collected from-cache h = archive-stays
   frame-collected (from-frame j) h =
       ap (λ (t : Bool). cond t archiveFrame (frameAt (x .state .frames) (x .state .omf) (n - 1 - j)))
-      (below-frame (x .state .frames) (x .state .omf) (good .frames-to) (fits .omf-below) k (n - 1 - j) (omega (arith, most)))
+      (below-frame (x .state .frames) (x .state .omf) (lim .good .frames-to) (lim .fits .omf-below) k (n - 1 - j) (omega (arith, lim .live-most)))
       ∙ go (decLt j kept)
     where
       go : Dec (j < kept) → cond (ltb (n - 1 - j) k) archiveFrame (frameAt (x .state .frames) (x .state .omf) (n - 1 - j)) ≡ frameNumber (new .state) (cond (ltb j kept) (from-frame j) from-archive)
@@ -262,7 +255,7 @@ module _ (x : Storage) (q : WellStore x) (k : ℕ) (some-k : 0 < k) (low : k ≤
   unfolding advancedState frameAt
   collected-store =
       record {
-        fits = facts-fit (settingsIn (x .state)) (x .state .cmf) _ (record { limits = fits .limits; cmf-below = fits .cmf-below; omf-below = mod-lt _ (omega (arith, below)) });
+        fits = facts-fit (settingsIn (x .state)) (x .state .cmf) _ (record { limits = lim .fits .limits; cmf-below = lim .fits .cmf-below; omf-below = mod-lt _ (omega (arith, below)) });
         long = subst (λ (p : Pieces). enough (settingsIn (x .state)) p ≡ true) (sym (lengths-kept x k long)) (q .long);
         bits = subst (λ (m : ℕ). WellBits (writtenIn new) (x .state .tag) m) (sym live) (advanced-well (writtenIn x) (q .bits .lent) k below (x .state .tag) n (q .bits));
         pages = advanced-confirmed (writtenIn x) (q .bits .lent) k below (x .state .pages) (λ y. getD (x .memory .table) y 0) (λ p. getD (x .memory .owners) p 0) (q .pages);

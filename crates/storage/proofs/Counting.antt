@@ -16,15 +16,14 @@ use Rattle.rules.specs.Refusal.{refusal, stateRefusal, noPage}
 use Rattle.rules.specs.Figure2.{pagesOf, isWritten, figureSeen, figureStep, cmfStep, omfStep}
 use Rattle.rules.specs.Figure3.{cacheStep}
 use Rattle.rules.specs.Promise.{Promise, Followed, factsOf, figureOf, seenOf}
-use Rattle.rules.proofs.Promise.{fits-facts}
 use Rattle.rules.proofs.Count.{any-same, count-same}
-use Rattle.rules.proofs.Circle.{live-at-most}
 use Rattle.written.specs.Bits.{effective}
 use Rattle.pages.specs.Table.{placesOf, neededAt, heldAt}
 use Rattle.pages.proofs.Holding.{held-count}
 use Rattle.pages.proofs.Counting.{needed-pages}
-use Rattle.storage.specs.Storage.{Storage, settingsIn, liveIn, writtenIn, frameIn, versionAt, WellStore, store}
+use Rattle.storage.specs.Storage.{Storage, liveIn, writtenIn, frameIn, versionAt, WellStore, store}
 use Rattle.storage.specs.Admit.{admitted}
+use Rattle.storage.proofs.Limits.{limits}
 use Rattle.storage.proofs.Looking.{admittedIn, turned-down, let-through}
 
 -- Pages are counted by the lines below L alone.
@@ -52,10 +51,8 @@ pub pages-counted : (x : Storage) → WellStore x
     → count (x .state .pages) (heldAt (writtenIn x) (x .memory .table) (x .memory .owners)) ≡ seenOf store x .pages
 unfolding heldAt seenOf figureSeen figureOf
 pages-counted x q =
-    let f = fits-facts (settingsIn (x .state)) (x .state .cmf) (x .state .omf) (q .fits) in
-    let most = live-at-most (x .state .frames) (x .state .cmf) (x .state .omf) (f .cmf-below) (f .omf-below) in
     held-count (neededAt (writtenIn x)) (x .state .pages) (λ y. getD (x .memory .table) y 0) (λ p. getD (x .memory .owners) p 0) (placesOf (writtenIn x)) (q .pages)
-    ∙ (needed-pages (writtenIn x) (x .state .tag) (liveIn (x .state)) (q .bits) most
+    ∙ (needed-pages (writtenIn x) (x .state .tag) (liveIn (x .state)) (q .bits) (limits x (q .fits) .live-most)
     ∙ pages-alike (x .state .lines) (liveIn (x .state)) _ _ (written-effective x))
 
 module _ (x : Storage) (a : ℕ) (told : a ≡ admittedIn x 0) where

@@ -11,13 +11,12 @@ use Rattle.rules.specs.Settings.{Settings}
 use Rattle.rules.specs.Line.{Line, IsLine, zeros}
 use Rattle.rules.specs.Figure2.{Figure}
 use Rattle.rules.specs.Promise.{WellFigure, Lawful, figureOf, seenOf}
-use Rattle.rules.proofs.Promise.{fits-facts}
-use Rattle.rules.proofs.Circle.{live-some, live-at-most}
 use Rattle.written.specs.Bits.{effective}
 use Rattle.pages.specs.Lines.{archiveLine}
 use Rattle.pages.specs.Table.{heldAt}
 use Rattle.pages.proofs.Giving.{count-le}
 use Rattle.storage.specs.Storage.{Storage, settingsIn, liveIn, writtenIn, indexBack, versionAt, frameIn, archiveIn, WellStore, store}
+use Rattle.storage.proofs.Limits.{limits}
 use Rattle.storage.proofs.Counting.{pages-counted}
 
 -- No version lies outside the live frames and the L lines.
@@ -78,10 +77,10 @@ archive-past x l h = ap (λ (t : Bool). cond t (archiveLine (x .memory .archive)
 pub well-figure : (x : Storage) → WellStore x → WellFigure (settingsIn (x .state)) (figureOf store x)
 unfolding figureOf seenOf
 well-figure x q =
-    let f = fits-facts (settingsIn (x .state)) (x .state .cmf) (x .state .omf) (q .fits) in
+    let f = limits x (q .fits) in
     record {
-      some-live = live-some (x .state .frames) (x .state .cmf) (x .state .omf) (f .cmf-below) (f .omf-below);
-      in-circle = live-at-most (x .state .frames) (x .state .cmf) (x .state .omf) (f .cmf-below) (f .omf-below);
+      some-live = f .live-some;
+      in-circle = f .live-most;
       only-live = λ j l h. frame-live x j l h;
       only-lines = λ j l h. frame-past x j l h;
       line = q .version-line;

@@ -1,5 +1,6 @@
 pub mod Admitting
 pub mod Chains
+pub mod Limits
 pub mod Looking
 pub mod Counting
 pub mod Figures

@@ -21,7 +21,7 @@ use Rattle.rules.specs.Figure2.{marked, figureStep, cmfStep, omfStep, versionIn
 use Rattle.rules.specs.Figure3.{cacheStep}
 use Rattle.rules.specs.Promise.{Promise, Followed, WellFigure, figureOf, factsOf, target}
 use Rattle.rules.proofs.Chain.{passed}
-use Rattle.rules.proofs.Promise.{Fits, fits-facts, facts-fit}
+use Rattle.rules.proofs.Promise.{facts-fit}
 use Rattle.rules.proofs.WellSteps.{mark-well}
 use Rattle.rules.proofs.Circle.{live-mark}
 use Rattle.frames.specs.Circle.{frameAt}
@@ -34,6 +34,7 @@ use Rattle.versions.specs.Newest.{pageOf}
 use Rattle.storage.specs.Storage.{Storage, settingsIn, lengthsIn, liveIn, writtenIn, frameIn, archiveIn, versionAt, latestIn, frameNumber, newestFrame, WellStore, store}
 use Rattle.storage.specs.Steps.{stateWith, markedState}
 use Rattle.storage.specs.Admit.{admitted}
+use Rattle.storage.proofs.Limits.{Limits, limits}
 use Rattle.storage.proofs.Chains.{admitted-rest}
 use Rattle.storage.proofs.Figures.{well-figure, step-versions, step-archive}
 use Rattle.storage.proofs.Looking.{admittedIn, turned-down, let-through}
@@ -45,12 +46,12 @@ module _ (x : Storage) (q : WellStore x) (room : liveIn (x .state) < x .state .f
   abbrev pub opened : Storage
   opened = record { state = markedState (x .state); memory = x .memory }
 
-  fits : Fits (settingsIn (x .state)) (x .state .cmf) (x .state .omf)
-  fits = fits-facts (settingsIn (x .state)) (x .state .cmf) (x .state .omf) (q .fits)
+  abbrev lim : Limits x
+  lim = limits x (q .fits)
 
   live : liveIn (opened .state) ≡ n + 1
   unfolding markedState
-  live = live-mark (x .state .frames) (x .state .cmf) (x .state .omf) (fits .cmf-below) (fits .omf-below) room
+  live = live-mark (x .state .frames) (x .state .cmf) (x .state .omf) (lim .fits .cmf-below) (lim .fits .omf-below) room
 
   -- the frame that opens has no written bit, and the others lie one mark further back
   abbrev shape : (live back line : ℕ) → Option Line
@@ -119,7 +120,7 @@ module _ (x : Storage) (q : WellStore x) (room : liveIn (x .state) < x .state .f
   unfolding markedState
   opened-well =
       record {
-        fits = facts-fit (settingsIn (x .state)) _ (x .state .omf) (record { limits = fits .limits; cmf-below = mod-lt _ (omega (arith, fits .omf-below)); omf-below = fits .omf-below });
+        fits = facts-fit (settingsIn (x .state)) _ (x .state .omf) (record { limits = lim .fits .limits; cmf-below = mod-lt _ (omega (arith, lim .fits .omf-below)); omf-below = lim .fits .omf-below });
         long = q .long;
         bits = subst (λ (m : ℕ). WellBits (writtenIn x) (x .state .tag) m) (sym live) (mark-keeps (writtenIn x) (x .state .tag) n (q .bits));
         pages = q .pages;

@@ -2,7 +2,7 @@
 use mathlib.Core.Path.{_≡_, refl, sym, _∙_, ap}
 use mathlib.Core.Bool.{Bool, true, cond}
 use mathlib.Core.Option.{none, some}
-use Prim.Native.Nat.{ℕ, _-_, _/_, _≤_, _<_}
+use Prim.Native.Nat.{ℕ, _-_, _/_, _<_}
 use native.Mathlib.Omega.{arith}
 use borrow.Author.Tests.{lt-ltb}
 use lib.ListN.{getD}
@@ -12,9 +12,6 @@ use Rattle.rules.specs.Refusal.{stateFits}
 use Rattle.rules.specs.Figure2.{foundIn, isWritten, figureSeen}
 use Rattle.rules.specs.Figure3.{holds}
 use Rattle.rules.specs.Promise.{figureOf, seenOf}
-use Rattle.rules.proofs.Settings.{Good, within-good}
-use Rattle.rules.proofs.Promise.{Fits, fits-facts}
-use Rattle.rules.proofs.Circle.{live-some, live-at-most}
 use Rattle.rules.proofs.History.{version-line}
 use Rattle.frames.specs.Circle.{frameAt}
 use Rattle.frames.specs.Search.{greatest}
@@ -36,6 +33,7 @@ use Rattle.versions.specs.declared.Spot.the-variants.{Page, Archive}
 use Rattle.versions.specs.declared.Version.{Version}
 use Rattle.versions.specs.Newest.{pageOf, spotOf, contentOf, numberOf, backIn, originOf, newestOf, latestFrom, latestOf}
 use Rattle.storage.specs.Storage.{Storage, settingsIn, liveIn, writtenIn, versionAt, frameIn, archiveIn, latestIn, frameNumber, newestFrame, WellStore, store}
+use Rattle.storage.proofs.Limits.{Limits, limits}
 use Rattle.storage.proofs.Counting.{written-effective}
 use Rattle.storage.proofs.Figures.{frame-at}
 use Rattle.storage.proofs.Rows.{version-same, found-same}
@@ -54,17 +52,8 @@ module _ (x : Storage) (q : Findable x) where
   abbrev n : ℕ
   n = liveIn (x .state)
 
-  fits : Fits (settingsIn (x .state)) (x .state .cmf) (x .state .omf)
-  fits = fits-facts (settingsIn (x .state)) (x .state .cmf) (x .state .omf) (q .fits)
-
-  good : Good (settingsIn (x .state))
-  good = within-good (settingsIn (x .state)) (fits .limits)
-
-  most : n ≤ x .state .frames
-  most = live-at-most (x .state .frames) (x .state .cmf) (x .state .omf) (fits .cmf-below) (fits .omf-below)
-
-  some-live : 0 < n
-  some-live = live-some (x .state .frames) (x .state .cmf) (x .state .omf) (fits .cmf-below) (fits .omf-below)
+  abbrev lim : Limits x
+  lim = limits x (q .fits)
 
   abbrev pub page : (index line : ℕ) → ℕ
   page i l = pageOf (x .state .lines) (x .state .frames) (x .state .omf) (x .memory .table) i l
@@ -73,10 +62,10 @@ module _ (x : Storage) (q : Findable x) where
   pub page-known : (i l : ℕ) → i < n → l < x .state .lines → effective (writtenIn x) i l ≡ true → page i l < x .state .pages
   unfolding pageOf placeAt
   page-known i l h b e =
-      let block : l / 8 < x .state .lines / 8 = omega (arith, good .lines-by) in
+      let block : l / 8 < x .state .lines / 8 = omega (arith, lim .good .lines-by) in
       q .pages (placeAt (writtenIn x) (frameAt (x .state .frames) (x .state .omf) i) (l / 8))
-      (place-within (writtenIn x) (frameAt (x .state .frames) (x .state .omf) i) (l / 8) (frame-below (x .state .frames) (x .state .omf) (fits .omf-below) i) block)
-      (effective-needed (writtenIn x) i l (fits .omf-below) (omega (arith, most)) block e) .0
+      (place-within (writtenIn x) (frameAt (x .state .frames) (x .state .omf) i) (l / 8) (frame-below (x .state .frames) (x .state .omf) (lim .fits .omf-below) i) block)
+      (effective-needed (writtenIn x) i l (lim .fits .omf-below) (omega (arith, lim .live-most)) block e) .0
 
   module _ (l : ℕ) (b : l < x .state .lines) where
     abbrev bits : ℕ → Bool
@@ -87,7 +76,7 @@ module _ (x : Storage) (q : Findable x) where
 
     newest-is : newest ≡ greatest n bits
     unfolding newestFrom
-    newest-is = ap (λ (m : ℕ). greatest m bits) (omega (arith, some-live))
+    newest-is = ap (λ (m : ℕ). greatest m bits) (omega (arith, lim .live-some))
 
     pub newest-facts : (i : ℕ) → newest ≡ At i → Greatest n bits i
     newest-facts i e = greatest-found n bits i (sym newest-is ∙ e)

@@ -22,11 +22,10 @@ use Rattle.rules.specs.Refusal.{markedRefusal, stateRefusal, refusal, noPage}
 use Rattle.rules.specs.Figure2.{figureStep, cmfStep, omfStep, figureSeen, versionIn, foundIn, isWritten}
 use Rattle.rules.specs.Figure3.{WellCache, cacheStep}
 use Rattle.rules.specs.Promise.{Promise, Followed, factsOf, target, WellFigure, figureOf, seenOf}
-use Rattle.rules.proofs.Settings.{Good, within-good}
-use Rattle.rules.proofs.Promise.{Fits, fits-facts, facts-fit}
+use Rattle.rules.proofs.Promise.{facts-fit}
 use Rattle.rules.proofs.WellSteps.{rollback-well}
 use Rattle.rules.proofs.WellCache.{forget-well}
-use Rattle.rules.proofs.Circle.{live-rollback, live-at-most}
+use Rattle.rules.proofs.Circle.{live-rollback}
 use Rattle.frames.specs.Circle.{frameAt}
 use Rattle.written.specs.Bits.{effective}
 use Rattle.written.specs.Steps.{RolledBack}
@@ -44,6 +43,7 @@ use Rattle.versions.specs.Newest.{pageOf}
 use Rattle.storage.specs.Storage.{Storage, storageOf, memoryOf, settingsIn, lengthsIn, Recent, Coherent, liveIn, writtenIn, indexBack, frameIn, archiveIn, versionAt, latestIn, frameNumber, newestFrame, WellStore, store}
 use Rattle.storage.specs.Steps.{stateWith, rolledState, RolledTo}
 use Rattle.storage.specs.Admit.{admitted}
+use Rattle.storage.proofs.Limits.{Limits, limits}
 use Rattle.storage.proofs.Chains.{frames-room}
 use Rattle.storage.proofs.Looking.{admittedIn, turned-down, let-through}
 use Rattle.storage.proofs.Figures.{AlikeAt, frames-alike, well-figure, step-versions, step-archive}
@@ -66,18 +66,12 @@ module _ (x : Storage) (q : WellStore x) (k : ℕ) (low : k ≤ liveIn (x .state
         memory = record { archive = x .memory .archive; pool = x .memory .pool; groups = groups; table = x .memory .table; owners = x .memory .owners; history = history };
       }
 
-  fits : Fits (settingsIn (x .state)) (x .state .cmf) (x .state .omf)
-  fits = fits-facts (settingsIn (x .state)) (x .state .cmf) (x .state .omf) (q .fits)
-
-  good : Good (settingsIn (x .state))
-  good = within-good (settingsIn (x .state)) (fits .limits)
-
-  most : n ≤ x .state .frames
-  most = live-at-most (x .state .frames) (x .state .cmf) (x .state .omf) (fits .cmf-below) (fits .omf-below)
+  abbrev lim : Limits x
+  lim = limits x (q .fits)
 
   live : liveIn (dropped-to .state) ≡ kept
   unfolding rolledState
-  live = live-rollback (x .state .frames) (x .state .cmf) (x .state .omf) (fits .cmf-below) (fits .omf-below) k low
+  live = live-rollback (x .state .frames) (x .state .cmf) (x .state .omf) (lim .fits .cmf-below) (lim .fits .omf-below) k low
 
   lengths : lengthsIn (dropped-to .memory) ≡ lengthsIn (x .memory)
   lengths =
@@ -97,7 +91,7 @@ module _ (x : Storage) (q : WellStore x) (k : ℕ) (low : k ≤ liveIn (x .state
   rolled-alike i l h b =
       record {
         bit =
-            rolled-effective (writtenIn x) (x .state .tag) kept n (q .bits) groups history next r i l (omega (arith, most)) b
+            rolled-effective (writtenIn x) (x .state .tag) kept n (q .bits) groups history next r i l (omega (arith, lim .live-most)) b
             ∙ (ap (λ (t : Bool). effective (writtenIn x) i l && t) (lt-ltb i kept h) ∙ and-true (effective (writtenIn x) i l));
         version = λ _. refl;
       }
@@ -121,7 +115,7 @@ module _ (x : Storage) (q : WellStore x) (k : ℕ) (low : k ≤ liveIn (x .state
   unfolding dropped isDropped frameNumber
   gone-number from-cache h = refl
   gone-number (from-frame j) h =
-      dropped-frame (x .state .frames) (x .state .omf) (good .frames-to) (fits .omf-below) kept (n - 1 - j) (omega (arith, most))
+      dropped-frame (x .state .frames) (x .state .omf) (lim .good .frames-to) (lim .fits .omf-below) kept (n - 1 - j) (omega (arith, lim .live-most))
       ∙ turned (decLt j k)
     where
       turned : Dec (j < k) → not (ltb (n - 1 - j) kept) ≡ ltb j k
@@ -185,9 +179,9 @@ module _ (x : Storage) (q : WellStore x) (k : ℕ) (low : k ≤ liveIn (x .state
   unfolding rolledState
   rolled-store =
       record {
-        fits = facts-fit (settingsIn (x .state)) _ (x .state .omf) (record { limits = fits .limits; cmf-below = mod-lt _ (omega (arith, fits .omf-below)); omf-below = fits .omf-below });
+        fits = facts-fit (settingsIn (x .state)) _ (x .state .omf) (record { limits = lim .fits .limits; cmf-below = mod-lt _ (omega (arith, lim .fits .omf-below)); omf-below = lim .fits .omf-below });
         long = subst (λ (p : Pieces). enough (settingsIn (x .state)) p ≡ true) (sym lengths) (q .long);
-        bits = subst (λ (m : ℕ). WellBits (writtenIn dropped-to) next m) (sym live) (rolled-well (writtenIn x) (x .state .tag) kept n (q .bits) groups history next r (omega (arith, most, good .frames-to)));
+        bits = subst (λ (m : ℕ). WellBits (writtenIn dropped-to) next m) (sym live) (rolled-well (writtenIn x) (x .state .tag) kept n (q .bits) groups history next r (omega (arith, lim .live-most, lim .good .frames-to)));
         pages = rolled-confirmed (writtenIn x) (x .state .tag) kept n (q .bits) groups history next r (x .state .pages) (λ y. getD (x .memory .table) y 0) (λ p. getD (x .memory .owners) p 0) (q .pages);
         sized = forgotten-sized (x .state .cache) (q .sized) (x .state .omf) (x .state .frames) kept;
         version-line = step-versions dropped-to _ _ rolled-figure next-well;

@@ -41,14 +41,13 @@ use Rattle.cache.proofs.Uses.{placed-sized, placed-shown, placed-all}
 use Rattle.versions.specs.Newest.{pageOf}
 use Rattle.storage.specs.Storage.{Storage, storageOf, settingsIn, lengthsIn, liveIn, writtenIn, versionAt, frameIn, archiveIn, latestIn, frameNumber, newestFrame, Recent, Coherent, WellStore, store}
 use Rattle.storage.specs.Steps.{usedState}
-use Rattle.storage.specs.Admit.{covers}
-use Rattle.storage.proofs.Admitting.{Long, covers-long}
+use Rattle.storage.proofs.Limits.{Limits, limits, lent-long}
 use Rattle.storage.proofs.Past.{written-long}
 use Rattle.storage.proofs.Figures.{AlikeAt, frames-alike, frame-at, well-figure, step-versions, step-archive}
 use Rattle.storage.proofs.Numbers.{used-number}
 use Rattle.storage.proofs.Rows.{current-twice, current-version, current-found}
 use Rattle.storage.proofs.Reading.{latest-line}
-use Rattle.storage.proofs.Choosing.{Chosen, place, place-inside, cmf-frame, most, some-live, asks-table}
+use Rattle.storage.proofs.Choosing.{Chosen, place, place-inside, cmf-frame, asks-table}
 
 none-off : (m : ℕ) → m - 0 ≡ m
 none-off m = omega arith
@@ -75,6 +74,9 @@ module _ (x : Storage) (q : WellStore x) (wd a v : ℕ) (p : Placed (settingsIn 
     abbrev w : Written
     w = writtenIn x
 
+    abbrev lim : Limits x
+    lim = limits x (q .fits)
+
     -- the line with the value written to its most recent version
     abbrev pub content : Line
     content = edit wd (offsetOf a) v (latestIn x l)
@@ -89,13 +91,9 @@ module _ (x : Storage) (q : WellStore x) (wd a v : ℕ) (p : Placed (settingsIn 
         let line = latest-line x q l b in
         length-edit wd (offsetOf a) v (latestIn x l) (subst (λ (m : ℕ). offsetOf a + wd ≤ m) (sym (line .long)) (in-line (widths wd (p .width)) a (p .aligned))) ∙ line .long
 
-    long : Long (elements (settingsIn (x .state))) (lengthsIn (x .memory))
-    unfolding enough covers
-    long = covers-long (elements (settingsIn (x .state))) (lengthsIn (x .memory)) (q .long)
-
     pool-long : 128 * x .state .pages ≤ length (x .memory .pool)
     unfolding elements
-    pool-long = long .pool
+    pool-long = lent-long x (q .long) .pool
 
     page-room : 128 * page + 128 ≤ length (x .memory .pool)
     page-room = omega (arith, c .below, pool-long)
@@ -108,7 +106,7 @@ module _ (x : Storage) (q : WellStore x) (wd a v : ℕ) (p : Placed (settingsIn 
         (length-set (x .memory .table) (place x q l b) page) (length-set (x .memory .owners) page (place x q l b))
 
     asks : Asks w l (n - 1)
-    asks = record { lent = q .bits .lent; line-below = b; index-below = omega (arith, some-live x q l b, most x q l b) }
+    asks = record { lent = q .bits .lent; line-below = b; index-below = omega (arith, lim .live-some, lim .live-most) }
 
     bit-after : (i m : ℕ) → i < x .state .frames → m < x .state .lines → effective (writtenIn stored) i m ≡ (effective w i m || (eqb i (n - 1) && eqb m l))
     unfolding usedState
@@ -128,12 +126,12 @@ module _ (x : Storage) (q : WellStore x) (wd a v : ℕ) (p : Placed (settingsIn 
         let frame : frameAt (x .state .frames) (x .state .omf) i ≡ frameAt (x .state .frames) (x .state .omf) (n - 1) =
         sym (digits-div (frameAt (x .state .frames) (x .state .omf) i) (in-block m d)) ∙ (ap (λ (y : ℕ). y / (x .state .lines / 8)) e ∙ digits-div (frameAt (x .state .frames) (x .state .omf) (n - 1)) (in-block l b))
         in (
-          sym (index-frame (x .state .frames) (x .state .omf) omf i (omega (arith, most x q l b))) ∙ (ap (indexOf (x .state .frames) (x .state .omf)) frame ∙ index-frame (x .state .frames) (x .state .omf) omf (n - 1) (asks .index-below)),
+          sym (index-frame (x .state .frames) (x .state .omf) omf i (omega (arith, lim .live-most))) ∙ (ap (indexOf (x .state .frames) (x .state .omf)) frame ∙ index-frame (x .state .frames) (x .state .omf) omf (n - 1) (asks .index-below)),
           sym (digits-mod (frameAt (x .state .frames) (x .state .omf) i) (in-block m d)) ∙ (ap (λ (y : ℕ). y % (x .state .lines / 8)) e ∙ digits-mod (frameAt (x .state .frames) (x .state .omf) (n - 1)) (in-block l b)),
         )
 
     spot-needed : (i m : ℕ) → i < n → m < x .state .lines → effective w i m ≡ true → neededAt w (spot i m) ≡ true
-    spot-needed i m h d e = effective-needed w i m (q .bits .lent .omf-below) (omega (arith, most x q l b)) (in-block m d) e
+    spot-needed i m h d e = effective-needed w i m (q .bits .lent .omf-below) (omega (arith, lim .live-most)) (in-block m d) e
 
     abbrev old : (index line : ℕ) → ℕ
     old i m = getD (x .memory .table) (spot i m) 0
@@ -173,7 +171,7 @@ module _ (x : Storage) (q : WellStore x) (wd a v : ℕ) (p : Placed (settingsIn 
     own-frame : frameIn stored 0 l ≡ some content
     unfolding usedState
     own-frame =
-        frame-at stored 0 l (some-live x q l b) b
+        frame-at stored 0 l (lim .live-some) b
         ∙ ap₂ (λ (t : Bool) (y : Line). cond t (some y) none) (ap (λ (i : ℕ). effective (writtenIn stored) i l) first ∙ own-bit) (ap (λ (i : ℕ). versionAt stored i l) first ∙ own-version)
       where
         first : n - 1 - 0 ≡ n - 1
@@ -183,7 +181,7 @@ module _ (x : Storage) (q : WellStore x) (wd a v : ℕ) (p : Placed (settingsIn 
     other-alike : (i m : ℕ) → i < n → m < x .state .lines → (i ≡ n - 1 → m ≡ l → ⊥) → AlikeAt stored x i i m
     other-alike i m h d other =
         record {
-          bit = bit-after i m (omega (arith, most x q l b)) d ∙ (ap (λ (t : Bool). effective w i m || t) (off (ℕ-discrete i (n - 1)) (ℕ-discrete m l)) ∙ or-false (effective w i m));
+          bit = bit-after i m (omega (arith, lim .live-most)) d ∙ (ap (λ (t : Bool). effective w i m || t) (off (ℕ-discrete i (n - 1)) (ℕ-discrete m l)) ∙ or-false (effective w i m));
           version = λ e. version-after i m h d e other;
         }
       where
@@ -210,7 +208,7 @@ module _ (x : Storage) (q : WellStore x) (wd a v : ℕ) (p : Placed (settingsIn 
         go (yes s) =
             ap (frameIn stored 0) s
             ∙ (own-frame
-            ∙ (ap (λ (y : Line). some (edit wd (offsetOf a) v y)) (sym (current-twice n (λ j. frameIn x j l) (archiveIn x l) (some-live x q l b)))
+            ∙ (ap (λ (y : Line). some (edit wd (offsetOf a) v y)) (sym (current-twice n (λ j. frameIn x j l) (archiveIn x l) (lim .live-some)))
             ∙ (sym (ap (λ (t : Bool). cond t (some (edit wd (offsetOf a) v (Option·getD (frameIn x 0 l) (latestIn x l)))) (frameIn x 0 l)) (eq-eqb l l refl))
             ∙ ap (λ (y : ℕ). cond (eqb l y) (some (edit wd (offsetOf a) v (Option·getD (frameIn x 0 y) (latestIn x y)))) (frameIn x 0 y)) (sym s))))
         go (no s) =
@@ -230,12 +228,12 @@ module _ (x : Storage) (q : WellStore x) (wd a v : ℕ) (p : Placed (settingsIn 
     -- the most recent version of the line written, and of the others
     own-latest : latestIn stored l ≡ content
     unfolding latestIn usedState
-    own-latest = current-version n (λ j. frameIn stored j l) (archiveIn stored l) content (some-live x q l b) own-frame
+    own-latest = current-version n (λ j. frameIn stored j l) (archiveIn stored l) content (lim .live-some) own-frame
 
     own-newest : newestFrame stored l ≡ x .state .cmf
     unfolding newestFrame frameNumber usedState isWritten
     own-newest =
-        ap (frameNumber (stored .state)) (current-found n (λ j. isWritten (frameIn stored j l)) (some-live x q l b) (ap isWritten own-frame))
+        ap (frameNumber (stored .state)) (current-found n (λ j. isWritten (frameIn stored j l)) (lim .live-some) (ap isWritten own-frame))
         ∙ (ap (frameAt (x .state .frames) (x .state .omf)) (none-off (n - 1)) ∙ cmf-frame x q l b)
 
     same-live : liveIn (stored .state) ≡ n
@@ -269,7 +267,7 @@ module _ (x : Storage) (q : WellStore x) (wd a v : ℕ) (p : Placed (settingsIn 
         record {
           fits = q .fits;
           long = subst (λ (r : Pieces). enough (settingsIn (x .state)) r ≡ true) (sym lengths) (q .long);
-          bits = set-keeps w (x .state .tag) n l (n - 1) (q .bits) asks (omega (arith, some-live x q l b));
+          bits = set-keeps w (x .state .tag) n l (n - 1) (q .bits) asks (omega (arith, lim .live-some));
           pages = c .confirmed;
           sized = placed-sized (x .state .cache) (q .sized) l (x .state .cmf) content whole;
           version-line = step-versions stored _ _ stored-figure next-well;

@@ -1,5 +1,5 @@
 -- The store's storage: the state and the lent memory, what they show of Figures 2 and 3, and when they are well-formed.
-use Prim.Native.Nat.{ℕ, _-_, _/_, _%_}
+use Prim.Native.Nat.{ℕ, _-_, _%_}
 use mathlib.Core.Path.{_≡_}
 use mathlib.Core.Bool.{true, cond, _&&_}
 use mathlib.Core.Option.{Option, none, some}

@@ -89,7 +89,7 @@ ReadTo x l t = WellStore x → t ≡ readState x l
 unfoldable pub contentAfter : Storage → (width address value : ℕ) → Line
 contentAfter x w a v = edit w (offsetOf a) v (latestIn x (lineOf a))
 
--- Where the table has the page of the line's block in CMF.
+-- Where the table has the page of the line's block in CMF, whose index from OMF is one less than the live frames.
 abbrev pub currentPlace : Storage → (line : ℕ) → ℕ
 currentPlace x l = placeAt (writtenIn x) (frameAt (x .state .frames) (x .state .omf) (liveIn (x .state) - 1)) (l / 8)
 

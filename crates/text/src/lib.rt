@@ -1,0 +1,127 @@
+// Text in bytes: numbers read and written, and lines of any length read byte by byte.
+ghost use mathlib.Core.Path.{_≡_};
+ghost use mathlib.Core.List.{[]};
+ghost use mathlib.Core.Bool.{true};
+ghost use Prim.Native.Nat.{_+_, _-_, _≤_, _<_};
+ghost use lib.ListN.{length, drop};
+ghost use Rattle.text.specs.Parts.{upTo};
+ghost use Rattle.text.specs.Lines.{Holds, Extends};
+ghost use Rattle.text.specs.Numbers.{isDigit, numberIn, decimal};
+
+// What a field says as a number.
+pub enum Number {
+    Is(u32),
+    Not,
+}
+
+// Whether a byte is a decimal digit.
+fn is_digit(b: u8) -> bool
+    ensures { λ r. ⌜ r ≡ isDigit b ⌝ }
+{
+    if b < 48 {
+        return false;
+    }
+    if 57 < b {
+        return false;
+    }
+    true
+}
+
+// The value of a digit.
+fn digit_value(b: u8) -> u64
+    requires { ⌜ isDigit b ≡ true ⌝ }
+    ensures { λ r. ⌜ (r ≡ b - 48) × (r < 10) ⌝ }
+{
+    b as u64 - 48
+}
+
+// The number that a field of 1 to 10 digits says, if it is at most 4,294,967,295.
+pub fn read_number(field: &[u8]) -> Number
+    ensures { λ r. ⌜ r ≡ numberIn (now (field .entry)) ⌝ }
+{
+    let count = field.len();
+    if count == 0 {
+        return Number::Not;
+    }
+    if 10 < count {
+        return Number::Not;
+    }
+    let mut value = 0u64;
+    let mut i = 0;
+    while i < count {
+        let b = field[i];
+        if !is_digit(b) {
+            return Number::Not;
+        }
+        value = value * 10 + digit_value(b);
+        i = i + 1;
+    }
+    if 4294967295 < value {
+        return Number::Not;
+    }
+    Number::Is(value as u32)
+}
+
+// The decimal digits of a number, without leading zeros: written to the end of the scratch, of which the part that holds them is returned.
+pub fn write_decimal<'a>(scratch: &'a mut [u8], n: u64) -> &'a [u8]
+    requires { ⌜ 20 ≤ length (now scratch) ⌝ }
+    ensures { λ r. ⌜ now r ≡ decimal n ⌝ }
+{
+    let mut i = scratch.len();
+    let mut rest = n;
+    while 10 <= rest {
+        i = i - 1;
+        scratch[i] = 48 + (rest % 10) as u8;
+        rest = rest / 10;
+    }
+    i = i - 1;
+    scratch[i] = 48 + rest as u8;
+    let whole = &scratch[..];
+    &whole[i..]
+}
+
+// Where the field that starts at a byte of a line ends: at the next tab, or at the line's end.
+pub fn field_end(line: &[u8], from: usize) -> usize
+    requires { ⌜ from ≤ length (now line) ⌝ }
+    ensures { λ r. ⌜ r ≡ from + upTo 9 (drop from (now (line .entry))) ⌝ }
+{
+    let count = line.len();
+    let mut i = from;
+    while i < count {
+        if line[i] == 9 {
+            return i;
+        }
+        i = i + 1;
+    }
+    i
+}
+
+// The line that is being read: its first bytes up to the limit of 80, and how many it has, counted to one past the limit.
+pub struct Reader {
+    pub kept: [u8; 80],
+    pub count: u32,
+}
+
+// No byte of a line yet.
+pub fn no_line() -> Reader
+    ensures { λ r. ⌜ Holds r [] ⌝ }
+{
+    let kept = [0u8; 80];
+    Reader { kept, count: 0 }
+}
+
+// One byte more of the line.
+pub fn with_byte(reader: Reader, b: u8) -> Reader
+    ensures { λ r. ⌜ Extends reader b r ⌝ }
+{
+    let count = reader.count;
+    let mut kept = reader.kept;
+    if 80 <= count {
+        return Reader { kept, count: 81 };
+    }
+    kept[count as usize] = b;
+    Reader {
+        kept,
+        count: count + 1,
+    }
+}

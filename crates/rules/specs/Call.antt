@@ -30,6 +30,14 @@ pub data Answer : Type 0 where
   counting : (refusal live pages : ℕ) → Answer
   verdict : (refusal : ℕ) → Bool → Answer
 
+-- The refusal, or 0, that stands in an answer. (LINE's has none: its companion gives it.)
+unfoldable pub numberIn : Answer → ℕ
+numberIn (outcome n) = n
+numberIn (reading n v o) = n
+numberIn (lending x) = 0
+numberIn (counting n l p) = n
+numberIn (verdict n b) = n
+
 -- An answer of the call's own form, with n for its refusal or 0.
 abbrev pub Names : ℕ → Call → Answer → Type 0
 Names n (RESET s) a = a ≡ outcome n

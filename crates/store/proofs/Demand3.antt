@@ -1,28 +1,22 @@
 -- DEMAND 3 of the store, with nothing left as a parameter: whatever the state and the lent contents, after an accepted RESET every list of
 -- calls, refused ones and further resets included, gets the plain store's answers. Each step of the list is the promise that the `ensures`
 -- of the call states. Assumes nothing.
-use mathlib.Core.Path.{_≡_, ap, subst}
-use mathlib.Core.List.{List}
+use mathlib.Core.Path.{_≡_, sym, _∙_, ap, subst}
+use mathlib.Core.List.{List, [], _∷_}
 use Prim.Native.Nat.{ℕ}
-use Rattle.rules.specs.Settings.{Settings}
-use Rattle.rules.specs.Call.{Call, Answer}
-use Rattle.rules.specs.Call.Answer.{outcome, reading, lending, counting, verdict}
+use Rattle.rules.specs.Settings.{Settings, Pieces}
+use Rattle.rules.specs.Call.{Call, Answer, numberIn}
+use Rattle.rules.specs.Call.Answer.{outcome}
 use Rattle.rules.specs.Call.Call.{RESET}
 use Rattle.rules.specs.Refusal.{askedRefusal, refusal}
-use Rattle.rules.specs.Plain.{answersFrom, freshModel}
+use Rattle.rules.specs.Plain.{Model, plainFacts, modelAnswer, modelStep, answersFrom, freshModel}
 use Rattle.rules.specs.Promise.{Promise, Run, factsOf}
+use Rattle.rules.specs.Promise.Run.{stop, next}
 use Rattle.rules.specs.Demand3.{Demand3, AnswersAsHistory}
 use Rattle.rules.proofs.Demand3.{demand-3, reached-well, answers-as-history}
 use Rattle.storage.specs.Storage.{Storage, lengthsIn, WellStore, store}
 use Rattle.storage.proofs.Figures.{lawful}
-
--- The refusal, or 0, that stands in an answer. (LINE's has none.)
-unfoldable pub numberIn : Answer → ℕ
-numberIn (outcome n) = n
-numberIn (reading n v o) = n
-numberIn (lending x) = 0
-numberIn (counting n l p) = n
-numberIn (verdict n b) = n
+use Rattle.store.specs.Shown.{Kept, lengthsKept, Promises, AnswersAs}
 
 pub store-demand-3 : Demand3 store
 store-demand-3 = demand-3 store lawful
@@ -46,3 +40,29 @@ pub store-answers : (s t u : Storage) (asked : Settings) (calls : List Call) (gi
     → Promise store (RESET asked) s (outcome n) t → Run store t calls given u → given ≡ answersFrom (lengthsIn (s .memory)) (freshModel asked) calls
 store-answers s t u asked calls given n z h run =
     store-demand-3 s t u asked calls given (subst (λ (m : ℕ). Promise store (RESET asked) s (outcome m) t) z h) run
+
+-- The same, from one call to the next: an accepted RESET leaves storage that answers as the empty plain store,
+pub store-starts : (s t : Kept) (asked : Settings) (n : ℕ) → n ≡ 0 → Promises (RESET asked) s (outcome n) t → AnswersAs t (freshModel asked)
+store-starts s t asked n z h u calls given run =
+    store-answers s t u asked calls given n z h run ∙ ap (λ (lengths : Pieces). answersFrom lengths (freshModel asked) calls) (sym (h .lengths))
+
+-- and storage that answers as a model does gives the model's next answer and goes on as the model does.
+heads : (a b : Answer) (xs ys : List Answer) → a ∷ xs ≡ b ∷ ys → a ≡ b
+heads a b xs ys e = cc
+
+tails : (a b : Answer) (xs ys : List Answer) → a ∷ xs ≡ b ∷ ys → xs ≡ ys
+tails a b xs ys e = cc
+
+module _ (s t : Kept) (c : Call) (a : Answer) (m : Model) (q : AnswersAs s m) (h : Promises c s a t) where
+  abbrev next-number : ℕ
+  next-number = refusal (plainFacts (lengthsKept s) (m .plain) c) c
+
+  pub store-answers-next : a ≡ modelAnswer next-number m c
+  unfolding answersFrom
+  store-answers-next = heads _ _ _ _ (q t (c ∷ []) (a ∷ []) (next h stop))
+
+  pub store-goes-on : AnswersAs t (modelStep next-number m c)
+  unfolding answersFrom
+  store-goes-on u calls given run =
+      tails _ _ _ _ (q u (c ∷ calls) (a ∷ given) (next h run))
+      ∙ ap (λ (lengths : Pieces). answersFrom lengths (modelStep next-number m c) calls) (sym (h .lengths))

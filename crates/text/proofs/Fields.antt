@@ -46,6 +46,46 @@ module _ {sep : ℕ} {text : Text} {from i : ℕ} (s : Scanning sep text from i)
       let none : upTo sep (drop i text) ≡ 0 = ap (upTo sep) (drop-of-length-le text {i = i} h) in
       omega (arith, s .same, none)
 
+-- A scan of the whole text.
+pub from-start : (sep : ℕ) (text : Text) (i : ℕ) → i ≡ 0 + upTo sep (drop 0 text) → i ≡ upTo sep text
+from-start sep text i e = omega arith
+
+pub up-to-length : (sep : ℕ) (text : Text) → upTo sep text ≤ length text
+unfolding upTo
+up-to-length sep [] = omega arith
+up-to-length sep (b ∷ bs) = go (up-to-length sep bs) (eqb b sep)
+  where
+    go : upTo sep bs ≤ length bs → (t : Bool) → cond t 0 (suc (upTo sep bs)) ≤ suc (length bs)
+    go ih true = omega arith
+    go ih false = omega arith
+
+-- A text that comes in two pieces: the first one ends within a part,
+pub split-within : (sep : ℕ) (begun text more : Text) → length text ≤ upTo sep text → split sep begun (text ++ more) ≡ split sep (begun ++ text) more
+unfolding split upTo
+split-within sep begun [] more h = ap (λ (t : Text). split sep t more) (sym (append-nil begun))
+split-within sep begun (b ∷ bs) more h = go (split-within sep (begun ++ (b ∷ [])) bs more) (eqb b sep) h
+  where
+    go : (length bs ≤ upTo sep bs → split sep (begun ++ (b ∷ [])) (bs ++ more) ≡ split sep ((begun ++ (b ∷ [])) ++ bs) more) → (t : Bool)
+        → suc (length bs) ≤ cond t 0 (suc (upTo sep bs))
+        → cond t (begun ∷ split sep [] (bs ++ more)) (split sep (begun ++ (b ∷ [])) (bs ++ more)) ≡ split sep (begun ++ (b ∷ bs)) more
+    go ih true k = absurd (omega arith)
+    go ih false k = ih (omega arith) ∙ ap (λ (t : Text). split sep t more) (append-assoc begun (b ∷ []) bs)
+
+-- or a part ends within it.
+pub split-ended : (sep : ℕ) (begun text more : Text) → upTo sep text < length text
+    → split sep begun (text ++ more) ≡ (begun ++ take (upTo sep text) text) ∷ split sep [] (drop (suc (upTo sep text)) text ++ more)
+unfolding split upTo
+split-ended sep begun [] more h = absurd (omega arith)
+split-ended sep begun (b ∷ bs) more h = go (split-ended sep (begun ++ (b ∷ [])) bs more) (eqb b sep) h
+  where
+    go : (upTo sep bs < length bs
+        → split sep (begun ++ (b ∷ [])) (bs ++ more) ≡ ((begun ++ (b ∷ [])) ++ take (upTo sep bs) bs) ∷ split sep [] (drop (suc (upTo sep bs)) bs ++ more))
+        → (t : Bool) → cond t 0 (suc (upTo sep bs)) < suc (length bs)
+        → cond t (begun ∷ split sep [] (bs ++ more)) (split sep (begun ++ (b ∷ [])) (bs ++ more))
+        ≡ (begun ++ take (cond t 0 (suc (upTo sep bs))) (b ∷ bs)) ∷ split sep [] (drop (suc (cond t 0 (suc (upTo sep bs)))) (b ∷ bs) ++ more)
+    go ih true k = ap (λ (x : Text). x ∷ split sep [] (bs ++ more)) (sym (append-nil begun))
+    go ih false k = ih (omega arith) ∙ ap (λ (x : Text). x ∷ split sep [] (drop (suc (upTo sep bs)) bs ++ more)) (append-assoc begun (b ∷ []) (take (upTo sep bs) bs))
+
 -- A text's first part ends at the first separator; the others are those of what stands behind it.
 pub split-first : (sep : ℕ) (begun text : Text)
     → split sep begun text ≡ (begun ++ take (upTo sep text) text) ∷ cond (ltb (upTo sep text) (length text)) (split sep [] (drop (suc (upTo sep text)) text)) []

@@ -1,7 +1,7 @@
 -- Lines read byte by byte. Quotations are of document 01.
 use Prim.Native.Nat.{ℕ, _+_, min}
 use mathlib.Core.Path.{_≡_}
-use mathlib.Core.List.{[], _∷_, _++_}
+use mathlib.Core.List.{_++_}
 use lib.ListN.{length, take}
 use Rattle.text.specs.Parts.{Text}
 use Rattle.text.specs.declared.Reader.{Reader}
@@ -15,6 +15,6 @@ pub record Holds (r : Reader) (line : Text) : Type 0 where
   pub counted : r .count ≡ min (limit + 1) (length line)
   pub bytes : take (min limit (length line)) (r .kept) ≡ take limit line
 
--- One byte more, whatever line was held.
-abbrev pub Extends : Reader → ℕ → Reader → Type 0
-Extends r b s = (line : Text) → Holds r line → Holds s (line ++ (b ∷ []))
+-- Some bytes more, whatever line was held.
+abbrev pub Extends : Reader → Text → Reader → Type 0
+Extends r more s = (line : Text) → Holds r line → Holds s (line ++ more)

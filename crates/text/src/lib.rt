@@ -1,10 +1,11 @@
 // Text in bytes: numbers read and written, and lines of any length read byte by byte.
 ghost use mathlib.Core.Path.{_≡_};
-ghost use mathlib.Core.List.{[]};
+ghost use mathlib.Core.List.{[], _∷_};
 ghost use mathlib.Core.Bool.{true};
 ghost use Prim.Native.Nat.{_+_, _-_, _≤_, _<_};
-ghost use lib.ListN.{length, drop};
+ghost use lib.ListN.{length, take, drop};
 ghost use Rattle.text.specs.Parts.{upTo};
+ghost use Rattle.text.specs.Output.{Puts};
 ghost use Rattle.text.specs.Lines.{Holds, Extends};
 ghost use Rattle.text.specs.Numbers.{isDigit, numberIn, decimal};
 
@@ -80,6 +81,30 @@ pub fn write_decimal<'a>(scratch: &'a mut [u8], n: u64) -> &'a [u8]
     &whole[i..]
 }
 
+// Puts bytes into a buffer from a place on, and returns the place behind them.
+pub fn put(out: &mut [u8], at: usize, bytes: &[u8]) -> usize
+    requires { ⌜ at + length (now bytes) ≤ length (now out) ⌝ }
+    ensures { λ r. ⌜ Puts (now (out .entry)) at (now (bytes .entry)) (now (out .exit)) r ⌝ }
+{
+    let count = bytes.len();
+    let mut i = 0;
+    while i < count {
+        out[at + i] = bytes[i];
+        i = i + 1;
+    }
+    at + count
+}
+
+// Puts the decimal digits of a number into a buffer, and returns the place behind them.
+pub fn put_decimal(out: &mut [u8], at: usize, n: u64) -> usize
+    requires { ⌜ at + 20 ≤ length (now out) ⌝ }
+    ensures { λ r. ⌜ Puts (now (out .entry)) at (decimal n) (now (out .exit)) r ⌝ }
+{
+    let mut scratch = [0u8; 20];
+    let digits = write_decimal(&mut scratch, n);
+    put(out, at, digits)
+}
+
 // Where the field that starts at a byte of a line ends: at the next tab, or at the line's end.
 pub fn field_end(line: &[u8], from: usize) -> usize
     requires { ⌜ from ≤ length (now line) ⌝ }
@@ -112,7 +137,7 @@ pub fn no_line() -> Reader
 
 // One byte more of the line.
 pub fn with_byte(reader: Reader, b: u8) -> Reader
-    ensures { λ r. ⌜ Extends reader b r ⌝ }
+    ensures { λ r. ⌜ Extends reader (b ∷ []) r ⌝ }
 {
     let count = reader.count;
     let mut kept = reader.kept;
@@ -123,5 +148,35 @@ pub fn with_byte(reader: Reader, b: u8) -> Reader
     Reader {
         kept,
         count: count + 1,
+    }
+}
+
+// The line with more bytes, and how many those are.
+pub struct Taken {
+    pub reader: Reader,
+    pub count: usize,
+}
+
+// The bytes of a chunk before its first line feed, or all of them, added to the line.
+pub fn take_line(reader: Reader, chunk: &[u8]) -> Taken
+    ensures { λ r. ⌜ (r .count ≡ upTo 10 (now (chunk .entry))) × Extends reader (take (r .count) (now (chunk .entry))) (r .reader) ⌝ }
+{
+    let count = chunk.len();
+    let mut line = reader;
+    let mut i = 0;
+    while i < count {
+        let b = chunk[i];
+        if b == 10 {
+            return Taken {
+                reader: line,
+                count: i,
+            };
+        }
+        line = with_byte(line, b);
+        i = i + 1;
+    }
+    Taken {
+        reader: line,
+        count: i,
     }
 }

@@ -5,7 +5,7 @@ use Prim.Native.Nat.{ℕ, zero, suc}
 use native.Mathlib.Omega.{arith}
 use Rattle.rules.specs.Settings.{Settings, Pieces}
 use Rattle.rules.specs.Line.{zeros}
-use Rattle.rules.specs.Call.{Call, Answer, Origin, refused}
+use Rattle.rules.specs.Call.{Call, Answer, Origin, numberIn, refused}
 use Rattle.rules.specs.Call.Answer.{outcome, reading, lending, counting, verdict}
 use Rattle.rules.specs.Call.Call.{WRITE, READ, MARK, ROLLBACK}
 use Rattle.rules.specs.Seen.{accepted}
@@ -15,7 +15,6 @@ use Rattle.rules.specs.Plain.{Model, plainSeen, plainFacts, plainStep, modelAns
 use Rattle.rules.proofs.Chain.{state-passed, write-passed}
 use Rattle.rules.proofs.Width.{widths, written-read}
 use Rattle.rules.proofs.WellSteps.{zeros-line}
-use Rattle.store.proofs.Demand3.{numberIn}
 
 headOf : Answer → List Answer → Answer
 headOf d [] = d

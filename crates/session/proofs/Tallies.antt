@@ -1,0 +1,86 @@
+-- The tally, answer by answer. Assumes nothing.
+use mathlib.Core.Path.{_≡_, refl, sym, _∙_, ap, subst}
+use mathlib.Core.Bool.{Bool, true, false, cond}
+use Prim.Native.Nat.{ℕ, zero, suc, _+_, _≤_, _<_, min}
+use native.Mathlib.Omega.{arith}
+use lib.Dec.{ltb, eqb}
+use borrow.Author.Tests.{lt-ltb, le-ltb, ltb-true, ltb-false, eq-eqb, ne-eqb}
+use Rattle.rules.specs.Call.{Answer, numberIn}
+use Rattle.session.specs.declared.Tally.{Tally}
+use Rattle.session.specs.Transcript.{Store, Running, most, counted}
+use Rattle.session.specs.Running.{oneMore, tallyAfter}
+
+abbrev tallyOf : (oks noes : ℕ) → Tally
+tallyOf oks noes = record { oks = oks; noes = noes }
+
+more-below : (n : ℕ) → n < most → oneMore n ≡ n + 1
+unfolding oneMore
+more-below n h = ap (λ (b : Bool). cond b (n + 1) n) (lt-ltb n most h)
+
+more-last : (n : ℕ) → most ≤ n → oneMore n ≡ n
+unfolding oneMore
+more-last n h = ap (λ (b : Bool). cond b (n + 1) n) (le-ltb n most h)
+
+-- An `ok`, and a `no`.
+module _ (t : Tally) (n : ℕ) where
+  pub tally-ok : (k : ℕ) → n ≡ 0 → k ≡ oneMore (t .oks) → tallyOf k (t .noes) ≡ tallyAfter t n
+  unfolding tallyAfter
+  tally-ok k e d = ap (λ (j : ℕ). tallyOf j (t .noes)) d ∙ sym (ap (λ (b : Bool). cond b (tallyOf (oneMore (t .oks)) (t .noes)) (tallyOf (t .oks) (oneMore (t .noes)))) (eq-eqb n 0 e))
+
+  pub tally-no : (k : ℕ) → (n ≡ 0 → ⊥) → k ≡ oneMore (t .noes) → tallyOf (t .oks) k ≡ tallyAfter t n
+  unfolding tallyAfter
+  tally-no k e d = ap (tallyOf (t .oks)) d ∙ sym (ap (λ (b : Bool). cond b (tallyOf (oneMore (t .oks)) (t .noes)) (tallyOf (t .oks) (oneMore (t .noes)))) (ne-eqb n 0 e))
+
+-- as the tests have it
+pub counts-more : (n : ℕ) → n < most → n + 1 ≡ oneMore n
+counts-more n h = sym (more-below n h)
+
+pub counts-last : (n : ℕ) → most ≤ n → n ≡ oneMore n
+counts-last n h = sym (more-last n h)
+
+-- One more beside the true count.
+more-min : (n k : ℕ) → n ≡ min most k → oneMore n ≡ min most (suc k)
+unfolding oneMore
+more-min n k e = go (ltb n most) refl
+  where
+    go : (b : Bool) → ltb n most ≡ b → cond b (n + 1) n ≡ min most (suc k)
+    go true d = omega (arith, ltb-true n most d)
+    go false d = omega (arith, ltb-false n most d)
+
+-- The tally in code stays beside the transcript's.
+pub record Beside (t : Tally) (x : Running) : Type 0 where
+  pub oks : t .oks ≡ min most (x .oks)
+  pub noes : t .noes ≡ min most (x .noes)
+
+abbrev okAfter : Running → Store → Running
+okAfter x o = record { store = o; oks = suc (x .oks); noes = x .noes }
+
+abbrev noAfter : Running → Store → Running
+noAfter x o = record { store = o; oks = x .oks; noes = suc (x .noes) }
+
+module _ (t : Tally) (x : Running) (a : Answer) (o : Store) (q : Beside t x) where
+  beside-ok : numberIn a ≡ 0 → Beside (tallyAfter t 0) (counted a x o)
+  unfolding tallyAfter counted
+  beside-ok e =
+      subst (λ (b : Bool). Beside (tallyOf (oneMore (t .oks)) (t .noes)) (cond b (okAfter x o) (noAfter x o))) (sym (eq-eqb (numberIn a) 0 e))
+      (record { oks = more-min (t .oks) (x .oks) (q .oks); noes = q .noes })
+
+  beside-no : (n : ℕ) → numberIn a ≡ suc n → Beside (tallyAfter t (suc n)) (counted a x o)
+  unfolding tallyAfter counted
+  beside-no n e =
+      subst (λ (b : Bool). Beside (cond b (tallyOf (oneMore (t .oks)) (t .noes)) (tallyOf (t .oks) (oneMore (t .noes)))) (cond (eqb (numberIn a) 0) (okAfter x o) (noAfter x o)))
+      (sym (ne-eqb (suc n) 0 (λ d. omega arith)))
+      (subst (λ (b : Bool). Beside (tallyOf (t .oks) (oneMore (t .noes))) (cond b (okAfter x o) (noAfter x o))) (sym (ne-eqb (numberIn a) 0 (λ d. omega arith)))
+      (record { oks = q .oks; noes = more-min (t .noes) (x .noes) (q .noes) }))
+
+  pub beside-next : (n : ℕ) → numberIn a ≡ n → Beside (tallyAfter t n) (counted a x o)
+  beside-next zero e = beside-ok e
+  beside-next (suc n) e = beside-no n e
+
+pub counted-store : (a : Answer) (x : Running) (o : Store) → counted a x o .store ≡ o
+unfolding counted
+counted-store a x o = go (eqb (numberIn a) 0)
+  where
+    go : (b : Bool) → cond b (okAfter x o) (noAfter x o) .store ≡ o
+    go true = refl
+    go false = refl

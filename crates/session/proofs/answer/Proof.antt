@@ -1,0 +1,79 @@
+-- `session::answer` meets its contract. Assumes nothing.
+use borrow.Author.Needs.{needs}
+use mathlib.Core.Path.{refl}
+use Rattle.session.proofs.Answering.{answers-nothing, line-answered, fits-refused, fits-asked}
+use Rattle.session.proofs.answer.Statement.{statement}
+use Rattle.session.proofs.answer.Tie as tie
+
+silence-requires : tie.Need-silence-requires
+silence-requires c κs = search needs
+
+returns : tie.Need-returns
+returns c = answers-nothing _ _ _ (c .before .if1 .taken) (c .silence .ensures)
+
+parse-requires : tie.Need-parse-requires
+parse-requires c κs = search needs
+
+enum-known-refusal : tie.Need-enum-known-refusal
+enum-known-refusal c = search needs
+
+replied-requires : tie.Need-replied-requires
+replied-requires c κs = search needs
+
+enum-known-asked : tie.Need-enum-known-asked
+enum-known-asked c = search needs
+
+ask-requires : tie.Need-ask-requires
+ask-requires c κs = search needs
+
+has-started-requires : tie.Need-has-started-requires
+has-started-requires c κs = search needs
+
+replied-requires-2 : tie.Need-replied-requires-2
+replied-requires-2 c κs = search needs
+
+returns-2 : tie.Need-returns-2
+returns-2 c = line-answered _ _ _ _ _ _ _ _ _ _ (c .before .before .before .before .parse .ensures) (c .before .before .before .before .before .before .if1 .left) (c .replied .ensures) (fits-refused _ _ _ _ (c .before .before .refusal .given .1)) refl
+
+same-length : tie.Need-same-length
+same-length c = search needs
+
+same-length-2 : tie.Need-same-length-2
+same-length-2 c = search needs
+
+same-length-3 : tie.Need-same-length-3
+same-length-3 c = search needs
+
+same-length-4 : tie.Need-same-length-4
+same-length-4 c = search needs
+
+same-length-5 : tie.Need-same-length-5
+same-length-5 c = search needs
+
+same-length-6 : tie.Need-same-length-6
+same-length-6 c = search needs
+
+returns-3 : tie.Need-returns-3
+returns-3 c = line-answered _ _ _ _ _ _ _ _ _ _ (c .before .before .before .before .before .before .before .before .before .before .before .before .before .before .before .before .before .before .before .before .before .before .before .before .parse .ensures) (c .before .before .before .before .before .before .before .before .before .before .before .before .before .before .before .before .before .before .before .before .before .before .before .before .before .before .if1 .left) (c .replied2 .ensures) (fits-asked _ _ _ _ _ _ _ _ _ (c .before .before .before .before .before .before .before .before .before .before .before .before .before .before .before .before .before .before .before .before .before .before .asked .given .1) (c .before .has-started .ensures) (c .before .before .before .before .before .before .before .before .before .before .before .before .before .before .ask .ensures)) (c .before .before .before .before .before .before .before .before .before .before .before .before .before .before .ask .ensures .lengths)
+
+pub answer-spec : {M : Type 1} → statement M
+answer-spec =
+    tie.close
+    (tie.spec
+    silence-requires
+    returns
+    parse-requires
+    enum-known-refusal
+    replied-requires
+    enum-known-asked
+    ask-requires
+    has-started-requires
+    replied-requires-2
+    returns-2
+    same-length
+    same-length-2
+    same-length-3
+    same-length-4
+    same-length-5
+    same-length-6
+    returns-3)

@@ -1,6 +1,6 @@
 -- A line answered. Assumes nothing.
 use mathlib.Core.Path.{_≡_, refl, sym, _∙_, ap, subst}
-use mathlib.Core.Bool.{Bool, false}
+use mathlib.Core.Bool.{Bool, true, false, false≢true}
 use mathlib.Core.List.{[], _∷_}
 use Prim.Native.Nat.{ℕ}
 use native.Mathlib.Omega.{arith}
@@ -14,17 +14,19 @@ use Rattle.records.specs.declared.Parsed.the-variants.{Asks, Refused}
 use Rattle.records.specs.Records.{parsed}
 use Rattle.rules.specs.Settings.{Pieces}
 use Rattle.rules.specs.Call.{Answer, numberIn}
-use Rattle.store.specs.Shown.{StoreState, Lent, kept, lengthsOf}
-use Rattle.session.specs.declared.Tally.{Tally}
+use Rattle.store.specs.Shown.{StoreState, Lent, kept, lengthsOf, Promises}
+use Rattle.tally.specs.declared.Tally.{Tally}
 use Rattle.session.specs.declared.Runner.{Runner}
-use Rattle.session.specs.declared.answers.Line.{Line}
-use Rattle.session.specs.declared.answers.Shown.{Shown}
-use Rattle.session.specs.declared.answers.Shown.the-variants.{Nothing}
-use Rattle.session.specs.Answers.{answerLine}
-use Rattle.session.specs.Lines.{answerOf, Says}
-use Rattle.session.specs.Transcript.{Store, Running, beginning, callOf, counted, storeAfter, lineAnswer, lineStore, lineText, lineAfter}
-use Rattle.session.specs.Running.{startedAfter, Stored, Asked, Replied, Stands, AnswersLine}
-use Rattle.session.proofs.Lines.{number-of}
+use Rattle.replies.specs.declared.Line.{Line}
+use Rattle.replies.specs.declared.Shown.{Shown}
+use Rattle.replies.specs.declared.Shown.the-variants.{Nothing}
+use Rattle.replies.specs.Answers.{answerLine}
+use Rattle.replies.specs.Lines.{answerOf, Says}
+use Rattle.replies.specs.Calls.{callOf}
+use Rattle.session.specs.Transcript.{Store, Running, beginning, counted, storeAfter, lineAnswer, lineStore, lineText, lineAfter}
+use Rattle.session.specs.Running.{early, startedAfter, Stored, Asked, Replied, Stands, AnswersLine}
+use Rattle.replies.proofs.Lines.{number-of}
+use Rattle.session.proofs.Asking.{started-suc, asked-early, asked-call}
 use Rattle.session.proofs.Tallies.{Beside, beside-next, counted-store}
 
 -- The runner before its first line.
@@ -109,16 +111,40 @@ fits-refused r m p n e =
       store = λ o q. subst (Stored (r .started) (kept (r .state) m)) (sym (ap (lineStore (lengthsOf m) o) e)) q;
     }
 
--- and one that is a record.
-pub fits-asked : (r : Runner) (before : Lent) (p : Parsed) (asked : Record) (n : ℕ) (shown : Shown) (started : Bool) (state : StoreState) (after : Lent)
-    → p ≡ Asks asked → started ≡ startedAfter (r .started) n → Asked (r .started) (callOf asked) (kept (r .state) before) (answerOf n shown) (kept state after)
-    → Fits r before p (answerOf n shown) started state after
+-- one that is a record,
+fits-record : (r : Runner) (before : Lent) (asked : Record) (n : ℕ) (shown : Shown) (started : Bool) (state : StoreState) (after : Lent)
+    → started ≡ startedAfter (r .started) n → Asked (r .started) asked (kept (r .state) before) (answerOf n shown) (kept state after)
+    → Fits r before (Asks asked) (answerOf n shown) started state after
 unfolding lineAnswer lineStore
-fits-asked r before p asked n shown started state after e d h =
+fits-record r before asked n shown started state after d h =
     record {
-      answer = λ o q. h .answer o q ∙ sym (ap (lineAnswer (lengthsOf before) o) e);
+      answer = h .answer;
       store =
           λ o q.
-          subst (Stored started (kept state after)) (sym (ap (lineStore (lengthsOf before) o) e))
-          (subst (λ (b : Bool). Stored b (kept state after) (storeAfter (lengthsOf before) o (callOf asked))) (ap (startedAfter (r .started)) (number-of n shown) ∙ sym d) (h .after o q));
+          subst (λ (b : Bool). Stored b (kept state after) (storeAfter (lengthsOf before) o asked)) (ap (startedAfter (r .started)) (number-of n shown) ∙ sym d) (h .after o q);
     }
+
+pub fits-asked : (r : Runner) (before : Lent) (p : Parsed) (asked : Record) (n : ℕ) (shown : Shown) (started : Bool) (state : StoreState) (after : Lent)
+    → p ≡ Asks asked → started ≡ startedAfter (r .started) n → early (r .started) p ≡ false
+    → Promises (callOf asked) (kept (r .state) before) (answerOf n shown) (kept state after) → Fits r before p (answerOf n shown) started state after
+fits-asked r before p asked n shown started state after e d b h =
+    subst (λ (x : Parsed). Fits r before x (answerOf n shown) started state after) (sym e)
+    (fits-record r before asked n shown started state after d
+    (asked-call (r .started) asked (kept (r .state) before) (answerOf n shown) (kept state after) (ap (early (r .started)) (sym e) ∙ b) h))
+
+-- and a record that comes too early.
+early-started : (b : Bool) (p : Parsed) → early b p ≡ true → b ≡ false
+unfolding early
+early-started true p e = absurd (false≢true e)
+early-started false p e = refl
+
+early-fits : (r : Runner) (m : Lent) (p : Parsed) → r .started ≡ false → early false p ≡ true → Fits r m p (answerOf 3 Nothing) (r .started) (r .state) m
+unfolding early answerOf
+early-fits r m (Refused n) b e = absurd (false≢true e)
+early-fits r m (Asks asked) b e =
+    fits-record r m asked 3 Nothing (r .started) (r .state) m (b ∙ sym (started-suc (r .started) 2 b)) (asked-early (r .started) asked (kept (r .state) m) b e)
+
+pub fits-early : (r : Runner) (m : Lent) (p : Parsed) → early (r .started) p ≡ true → Fits r m p (answerOf 3 Nothing) (r .started) (r .state) m
+fits-early r m p e =
+    let b : r .started ≡ false = early-started (r .started) p e in
+    early-fits r m p b (ap (λ (x : Bool). early x p) (sym b) ∙ e)

@@ -1,5 +1,5 @@
-pub mod Lines
 pub mod Asking
 pub mod Tallies
 pub mod Answering
 pub mod Streaming
+pub mod Lent

@@ -1,42 +1,14 @@
 -- The tally, answer by answer. Assumes nothing.
-use mathlib.Core.Path.{_≡_, refl, sym, _∙_, ap, subst}
+use mathlib.Core.Path.{_≡_, refl, sym, subst}
 use mathlib.Core.Bool.{Bool, true, false, cond}
-use Prim.Native.Nat.{ℕ, zero, suc, _+_, _≤_, _<_, min}
+use Prim.Native.Nat.{ℕ, zero, suc, _+_, min}
 use native.Mathlib.Omega.{arith}
 use lib.Dec.{ltb, eqb}
-use borrow.Author.Tests.{lt-ltb, le-ltb, ltb-true, ltb-false, eq-eqb, ne-eqb}
+use borrow.Author.Tests.{ltb-true, ltb-false, eq-eqb, ne-eqb}
 use Rattle.rules.specs.Call.{Answer, numberIn}
-use Rattle.session.specs.declared.Tally.{Tally}
-use Rattle.session.specs.Transcript.{Store, Running, most, counted}
-use Rattle.session.specs.Running.{oneMore, tallyAfter}
-
-abbrev tallyOf : (oks noes : ℕ) → Tally
-tallyOf oks noes = record { oks = oks; noes = noes }
-
-more-below : (n : ℕ) → n < most → oneMore n ≡ n + 1
-unfolding oneMore
-more-below n h = ap (λ (b : Bool). cond b (n + 1) n) (lt-ltb n most h)
-
-more-last : (n : ℕ) → most ≤ n → oneMore n ≡ n
-unfolding oneMore
-more-last n h = ap (λ (b : Bool). cond b (n + 1) n) (le-ltb n most h)
-
--- An `ok`, and a `no`.
-module _ (t : Tally) (n : ℕ) where
-  pub tally-ok : (k : ℕ) → n ≡ 0 → k ≡ oneMore (t .oks) → tallyOf k (t .noes) ≡ tallyAfter t n
-  unfolding tallyAfter
-  tally-ok k e d = ap (λ (j : ℕ). tallyOf j (t .noes)) d ∙ sym (ap (λ (b : Bool). cond b (tallyOf (oneMore (t .oks)) (t .noes)) (tallyOf (t .oks) (oneMore (t .noes)))) (eq-eqb n 0 e))
-
-  pub tally-no : (k : ℕ) → (n ≡ 0 → ⊥) → k ≡ oneMore (t .noes) → tallyOf (t .oks) k ≡ tallyAfter t n
-  unfolding tallyAfter
-  tally-no k e d = ap (tallyOf (t .oks)) d ∙ sym (ap (λ (b : Bool). cond b (tallyOf (oneMore (t .oks)) (t .noes)) (tallyOf (t .oks) (oneMore (t .noes)))) (ne-eqb n 0 e))
-
--- as the tests have it
-pub counts-more : (n : ℕ) → n < most → n + 1 ≡ oneMore n
-counts-more n h = sym (more-below n h)
-
-pub counts-last : (n : ℕ) → most ≤ n → n ≡ oneMore n
-counts-last n h = sym (more-last n h)
+use Rattle.tally.specs.declared.Tally.{Tally}
+use Rattle.tally.specs.Counts.{most, oneMore, tallyOf, tallyAfter}
+use Rattle.session.specs.Transcript.{Store, Running, counted}
 
 -- One more beside the true count.
 more-min : (n k : ℕ) → n ≡ min most k → oneMore n ≡ min most (suc k)

@@ -1,31 +1,27 @@
 -- The runner in code beside the runner of the transcript.
-use Prim.Native.Nat.{ℕ, _+_, _≤_, _<_, min}
+use Prim.Native.Nat.{ℕ, _≤_, min}
 use mathlib.Core.Path.{_≡_}
-use mathlib.Core.Bool.{Bool, true, false, cond, _||_}
-use mathlib.Core.Option.{none, some}
+use mathlib.Core.Bool.{Bool, true, false, _||_}
+use mathlib.Core.Option.{Option, none, some}
 use mathlib.Core.List.{[], _++_}
-use lib.Dec.{ltb, eqb}
+use lib.Dec.{eqb}
 use lib.ListN.{length, take, drop}
 use Rattle.text.specs.Parts.{Text, split}
 use Rattle.text.specs.Lines.{Holds}
-use Rattle.rules.specs.Call.{Call, Answer, numberIn}
+use Rattle.rules.specs.Settings.{Settings}
+use Rattle.rules.specs.Call.{Answer, numberIn}
+use Rattle.records.specs.declared.Record.{Record}
+use Rattle.records.specs.declared.Parsed.{Parsed}
+use Rattle.records.specs.declared.Parsed.the-variants.{Asks, Refused}
+use Rattle.tally.specs.Counts.{most, tallyAfter}
 use Rattle.store.specs.Shown.{StoreState, Lent, Kept, kept, lengthsOf, lengthsKept, AnswersAs}
-use Rattle.session.specs.declared.Tally.{Tally}
 use Rattle.session.specs.declared.Runner.{Runner}
 use Rattle.session.specs.declared.Answered.{Answered}
-use Rattle.session.specs.declared.answers.Line.{Line}
-use Rattle.session.specs.declared.answers.Shown.{Shown}
-use Rattle.session.specs.Answers.{answerLine}
-use Rattle.session.specs.Lines.{answerOf, Says}
-use Rattle.session.specs.Transcript.{Store, Running, most, answerTo, storeAfter, lineText, lineAfter, answersTo}
-
--- One more, up to the last number.
-unfoldable pub oneMore : ℕ → ℕ
-oneMore n = cond (ltb n most) (n + 1) n
-
--- The tally with one answer more, of refusal n or 0.
-unfoldable pub tallyAfter : Tally → ℕ → Tally
-tallyAfter t n = cond (eqb n 0) (record { oks = oneMore (t .oks); noes = t .noes }) (record { oks = t .oks; noes = oneMore (t .noes) })
+use Rattle.replies.specs.declared.Line.{Line}
+use Rattle.replies.specs.declared.Shown.{Shown}
+use Rattle.replies.specs.Answers.{answerLine}
+use Rattle.replies.specs.Lines.{answerOf, Says}
+use Rattle.session.specs.Transcript.{Store, Running, resetTo, answerTo, storeAfter, lineText, lineAfter, answersTo}
 
 -- Whether a reset was accepted, after an answer of refusal n or 0. (Before the first accepted reset no other record is.)
 unfoldable pub startedAfter : Bool → ℕ → Bool
@@ -36,8 +32,18 @@ abbrev pub Stored : Bool → Kept → Store → Type 0
 Stored started s none = started ≡ false
 Stored started s (some m) = (started ≡ true) × AnswersAs s m
 
+-- Whether a line is a record other than `reset`, before the first accepted reset: 1 and 2 come before 3.
+unfoldable pub isOther : Option Settings → Bool
+isOther none = true
+isOther (some asked) = false
+
+unfoldable pub early : (started : Bool) → Parsed → Bool
+early true parsed = false
+early false (Refused n) = false
+early false (Asks r) = isOther (resetTo r)
+
 -- The answer to a record, whatever the session's store was, and what is left.
-pub record Asked (started : Bool) (c : Call) (s : Kept) (a : Answer) (t : Kept) : Type 0 where
+pub record Asked (started : Bool) (c : Record) (s : Kept) (a : Answer) (t : Kept) : Type 0 where
   pub lengths : lengthsKept t ≡ lengthsKept s
   pub answer : (o : Store) → Stored started s o → a ≡ answerTo (lengthsKept s) o c
   pub after : (o : Store) → Stored started s o → Stored (startedAfter started (numberIn a)) t (storeAfter (lengthsKept s) o c)
@@ -66,13 +72,15 @@ pub record AnswersLine (r : Runner) (before : Lent) (s : Runner) (after : Lent) 
 
 -- Some bytes of a chunk taken: what is said to them, and then to what is left of the chunk and whatever follows it, is what the transcript
 -- says to all.
-pub record Continues (r : Runner) (before : Lent) (chunk : Text) (s : Runner) (after : Lent) (line : Line) (used : ℕ) : Type 0 where
+pub record Continues (r : Runner) (before : Lent) (chunk : Text) (s : Runner) (after : Lent) (said : Text) (used : ℕ) : Type 0 where
   pub lengths : lengthsOf after ≡ lengthsOf before
-  pub few : line .count ≤ 64
   pub within : used ≤ length chunk
-  pub moves : 0 < length chunk → 0 < used
   pub goes-on : (x : Running) (begun : Text) → Stands r before x begun
       → (y : Running) × (left : Text) × Stands s after y left
       × ((more : Text)
       → answersTo (lengthsOf before) x (split 10 begun (chunk ++ more))
-      ≡ take (line .count) (line .bytes) ++ answersTo (lengthsOf before) y (split 10 left (drop used chunk ++ more)))
+      ≡ said ++ answersTo (lengthsOf before) y (split 10 left (drop used chunk ++ more)))
+
+-- The end of input, within a line that was begun: what is said then ends the transcript.
+abbrev pub Ends : Runner → Lent → (said : Text) → Type 0
+Ends r m said = (x : Running) (begun : Text) → Stands r m x begun → said ≡ answersTo (lengthsOf m) x (split 10 begun [])

@@ -1,6 +1,6 @@
 -- The transcript of a whole session as a function of its bytes, over the plain store's answers. Quotations are of document 01.
 use Prim.Native.Nat.{ℕ, suc, min}
-use mathlib.Core.Bool.{Bool, true, false, cond}
+use mathlib.Core.Bool.{cond}
 use mathlib.Core.Option.{Option, none, some}
 use mathlib.Core.List.{List, [], _∷_, _++_}
 use lib.Dec.{eqb}
@@ -10,43 +10,25 @@ use Rattle.records.specs.declared.Record.the-variants.{Reset, Read, Write, Mark
 use Rattle.records.specs.declared.Parsed.{Parsed}
 use Rattle.records.specs.declared.Parsed.the-variants.{Asks, Refused}
 use Rattle.records.specs.Records.{parsed}
-use Rattle.rules.specs.Settings.{Settings, Pieces}
+use Rattle.rules.specs.Settings.{Settings, Pieces, elements}
 use Rattle.rules.specs.Sizing.{settingsOf}
 use Rattle.rules.specs.Call.{Call, Answer, numberIn}
-use Rattle.rules.specs.Call.Call.{RESET, WRITE, READ, LINE, LINE-REFUSAL, MARK, ROLLBACK, ADVANCE, COUNTS, CHECK}
 use Rattle.rules.specs.Call.Answer.{outcome}
 use Rattle.rules.specs.Refusal.{refusal, askedRefusal}
 use Rattle.rules.specs.Plain.{Model, plainFacts, modelAnswer, modelStep, freshModel}
-use Rattle.session.specs.Answers.{answerLine, endLine}
+use Rattle.tally.specs.Counts.{most}
+use Rattle.replies.specs.Calls.{callOf}
+use Rattle.replies.specs.Answers.{answerLine, endLine}
 
--- The call that a record asks for.
-unfoldable pub callOf : Record → Call
-callOf (Reset lines frames pages) = RESET (settingsOf lines frames pages)
-callOf (Read width address) = READ width address
-callOf (Write width address value) = WRITE width address value
-callOf Mark = MARK
-callOf (Back k) = ROLLBACK k
-callOf (Advance k) = ADVANCE k
-callOf Counts = COUNTS
-
--- The settings that a reset asks for; none for any other call.
-unfoldable pub resetTo : Call → Option Settings
-resetTo (RESET asked) = some asked
-resetTo (WRITE w a v) = none
-resetTo (READ w a) = none
-resetTo (LINE l) = none
-resetTo (LINE-REFUSAL l) = none
-resetTo MARK = none
-resetTo (ROLLBACK k) = none
-resetTo (ADVANCE k) = none
-resetTo COUNTS = none
-resetTo CHECK = none
-
--- Whether a record comes before the first accepted reset and is none.
-unfoldable pub early : (started : Bool) → Option Settings → Bool
-early true asked = false
-early false none = true
-early false (some asked) = false
+-- The settings that a `reset` asks for; none for any other record.
+unfoldable pub resetTo : Record → Option Settings
+resetTo (Reset lines frames pages) = some (settingsOf lines frames pages)
+resetTo (Read width address) = none
+resetTo (Write width address value) = none
+resetTo Mark = none
+resetTo (Back k) = none
+resetTo (Advance k) = none
+resetTo Counts = none
 
 -- A session's store: none before the first accepted reset, then the plain store with its cache.
 abbrev pub Store : Type 0
@@ -66,10 +48,6 @@ unfoldable pub counted : Answer → Running → Store → Running
 counted a x after =
     cond (eqb (numberIn a) 0) (record { store = after; oks = suc (x .oks); noes = x .noes }) (record { store = after; oks = x .oks; noes = suc (x .noes) })
 
--- A tally is printed as a 64-bit number; it would stay at the last one.
-abbrev pub most : ℕ
-most = 18446744073709551615
-
 -- The plain store "is fed each call's arguments and the lent lengths".
 module _ (lengths : Pieces) where
   -- The refusal of a record that comes before the first accepted reset, or 0. 3: "A session record other than `reset` comes before the first
@@ -87,23 +65,23 @@ module _ (lengths : Pieces) where
   modelRefusal m c = refusal (plainFacts lengths (m .plain) c) c
 
   -- The answer to a record,
-  unfoldable pub answerTo : Store → Call → Answer
-  answerTo none c = outcome (firstRefusal (resetTo c))
-  answerTo (some m) c = modelAnswer (modelRefusal m c) m c
+  unfoldable pub answerTo : Store → Record → Answer
+  answerTo none r = outcome (firstRefusal (resetTo r))
+  answerTo (some m) r = modelAnswer (modelRefusal m (callOf r)) m (callOf r)
 
   -- and the store after it: a refused reset leaves the old store, or none.
-  unfoldable pub storeAfter : Store → Call → Store
-  storeAfter none c = firstStore (resetTo c)
-  storeAfter (some m) c = some (modelStep (modelRefusal m c) m c)
+  unfoldable pub storeAfter : Store → Record → Store
+  storeAfter none r = firstStore (resetTo r)
+  storeAfter (some m) r = some (modelStep (modelRefusal m (callOf r)) m (callOf r))
 
   -- The answer to a line, refused or a record, and the store after it.
   unfoldable pub lineAnswer : Store → Parsed → Answer
   lineAnswer store (Refused n) = outcome n
-  lineAnswer store (Asks r) = answerTo store (callOf r)
+  lineAnswer store (Asks r) = answerTo store r
 
   unfoldable pub lineStore : Store → Parsed → Store
   lineStore store (Refused n) = store
-  lineStore store (Asks r) = storeAfter store (callOf r)
+  lineStore store (Asks r) = storeAfter store r
 
   -- What a line is answered with, and the runner after it. "An empty line gets no answer."
   unfoldable pub lineText : Running → Text → Text
@@ -122,3 +100,8 @@ module _ (lengths : Pieces) where
   -- "It reads standard input, one record a line, .. and answers each line."
   unfoldable pub transcript : Text → Text
   transcript input = answersTo beginning (linesOf input)
+
+-- "It answers 6 exactly for otherwise good settings with L above 512 or P above 256": the lengths that the runner lends. (proofs/Lent.antt has
+-- the proof of the sentence.)
+unfoldable pub runnerLent : Pieces
+runnerLent = elements (settingsOf 512 256 256)

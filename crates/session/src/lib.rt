@@ -1,27 +1,19 @@
 // A session: its lines in, their answers out, over the store's promises.
-mod answers;
-
-pub use answers::Line;
-use answers::Shown;
 use records::Parsed;
 use records::Record;
-use store::Outcome;
+pub use replies::Line;
+use replies::Reply;
+use replies::Shown;
 use store::State;
+use tally::Tally;
 use text::Reader;
 ghost use mathlib.Core.Path.{_≡_};
 ghost use mathlib.Core.List.{[]};
-ghost use Rattle.rules.specs.Call.Answer.{outcome};
-ghost use Rattle.store.specs.Shown.{Lent, lentOf, kept, Promises};
-ghost use Rattle.session.specs.Answers.{endLine};
-ghost use Rattle.session.specs.Lines.{answerOf, Says};
-ghost use Rattle.session.specs.Transcript.{callOf, resetTo, early, beginning};
-ghost use Rattle.session.specs.Running.{tallyAfter, startedAfter, Asked, Replied, Stands, AnswersLine, Continues};
-
-// How many lines were answered with `ok` and how many with `no`.
-pub struct Tally {
-    pub oks: u64,
-    pub noes: u64,
-}
+ghost use Prim.Native.Nat.{_≤_, _<_};
+ghost use lib.ListN.{length, take};
+ghost use Rattle.store.specs.Shown.{Lent, lentOf};
+ghost use Rattle.session.specs.Transcript.{resetTo, beginning};
+ghost use Rattle.session.specs.Running.{isOther, early, startedAfter, Replied, Stands, AnswersLine, Continues, Ends};
 
 // The runner between two bytes of its input: the store's state and whether a reset was accepted, the tally, and the line that is being read.
 pub struct Runner {
@@ -32,9 +24,9 @@ pub struct Runner {
 }
 
 // The runner after a line, and what it says to it.
-pub struct Answered {
-    pub runner: Runner,
-    pub line: Line,
+struct Answered {
+    runner: Runner,
+    line: Line,
 }
 
 // The runner after some bytes of input, what it says to them, and how many they were.
@@ -44,11 +36,11 @@ pub struct Fed {
     pub used: usize,
 }
 
-// What a call gave: the state, the refusal or 0, and what an answer line shows of it.
-struct Reply {
-    state: State,
-    refusal: u32,
-    shown: Shown,
+// The runner after some bytes of input, how many they were, and how many bytes of output it put.
+pub struct Told {
+    pub runner: Runner,
+    pub used: usize,
+    pub filled: usize,
 }
 
 // The runner before its first line.
@@ -66,13 +58,10 @@ pub fn start() -> Runner
     }
 }
 
-// Whether a record comes before the first accepted reset and is none.
-fn is_early(started: bool, asked: Record) -> bool
-    ensures { λ r. ⌜ r ≡ early started (resetTo (callOf asked)) ⌝ }
+// Whether a record is another than a reset.
+fn is_other(asked: Record) -> bool
+    ensures { λ r. ⌜ r ≡ isOther (resetTo asked) ⌝ }
 {
-    if started {
-        return false;
-    }
     match asked {
         Record::Reset(lines, frames, pages) => false,
         Record::Read(width, address) => true,
@@ -84,158 +73,17 @@ fn is_early(started: bool, asked: Record) -> bool
     }
 }
 
-// What a call that gives a refusal or 0 alone gave.
-fn plain(done: Outcome) -> Reply
-    ensures { λ r. ⌜ (r .state ≡ done .state) × (answerOf (r .refusal) (r .shown) ≡ outcome (done .refusal)) ⌝ }
+// Whether a line is a record other than a reset, before the first accepted reset.
+fn is_early(started: bool, parsed: Parsed) -> bool
+    ensures { λ r. ⌜ r ≡ early started parsed ⌝ }
 {
-    let state = done.state;
-    Reply {
-        state,
-        refusal: done.refusal,
-        shown: Shown::Nothing,
+    if started {
+        return false;
     }
-}
-
-// The call that a record asks for.
-fn call(
-    state: State,
-    archive: &mut [u8],
-    pool: &mut [u8],
-    groups: &mut [u32],
-    table: &mut [u16],
-    owners: &mut [u32],
-    history: &mut [u16],
-    asked: Record,
-) -> Reply
-    ensures { λ r. ⌜ Promises (callOf asked)
-        (kept state (lentOf (now (archive .entry)) (now (pool .entry)) (now (groups .entry)) (now (table .entry)) (now (owners .entry)) (now (history .entry))))
-        (answerOf (r .refusal) (r .shown))
-        (kept (r .state) (lentOf (now (archive .exit)) (now (pool .exit)) (now (groups .exit)) (now (table .exit)) (now (owners .exit)) (now (history .exit)))) ⌝ }
-{
-    match asked {
-        Record::Reset(lines, frames, pages) => plain(store::reset(
-            state,
-            archive,
-            pool,
-            groups,
-            table,
-            owners,
-            history,
-            lines,
-            frames,
-            pages,
-        )),
-        Record::Read(width, address) => {
-            let got = store::read(
-                state,
-                archive,
-                pool,
-                groups,
-                table,
-                owners,
-                history,
-                width,
-                address,
-            );
-            let state = got.state;
-            let origin = got.origin;
-            Reply {
-                state,
-                refusal: got.refusal,
-                shown: Shown::Read(got.value, origin),
-            }
-        }
-        Record::Write(width, address, value) => plain(store::write(
-            state,
-            archive,
-            pool,
-            groups,
-            table,
-            owners,
-            history,
-            width,
-            address,
-            value,
-        )),
-        Record::Mark => plain(store::mark(state, archive, pool, groups, table, owners, history)),
-        Record::Back(k) => plain(store::rollback(
-            state,
-            archive,
-            pool,
-            groups,
-            table,
-            owners,
-            history,
-            k,
-        )),
-        Record::Advance(k) => plain(store::advance(
-            state,
-            archive,
-            pool,
-            groups,
-            table,
-            owners,
-            history,
-            k,
-        )),
-        Record::Counts => {
-            let got = store::counts(state, archive, pool, groups, table, owners, history);
-            Reply {
-                state,
-                refusal: got.refusal,
-                shown: Shown::Counts(got.live, got.pages),
-            }
-        }
+    match parsed {
+        Parsed::Refused(n) => false,
+        Parsed::Asks(asked) => is_other(asked),
     }
-}
-
-// A record's answer: 3 before the first accepted reset, else its call's.
-fn ask(
-    started: bool,
-    state: State,
-    archive: &mut [u8],
-    pool: &mut [u8],
-    groups: &mut [u32],
-    table: &mut [u16],
-    owners: &mut [u32],
-    history: &mut [u16],
-    asked: Record,
-) -> Reply
-    ensures { λ r. ⌜ Asked started (callOf asked)
-        (kept state (lentOf (now (archive .entry)) (now (pool .entry)) (now (groups .entry)) (now (table .entry)) (now (owners .entry)) (now (history .entry))))
-        (answerOf (r .refusal) (r .shown))
-        (kept (r .state) (lentOf (now (archive .exit)) (now (pool .exit)) (now (groups .exit)) (now (table .exit)) (now (owners .exit)) (now (history .exit)))) ⌝ }
-{
-    if is_early(started, asked) {
-        return Reply {
-            state,
-            refusal: 3,
-            shown: Shown::Nothing,
-        };
-    }
-    call(state, archive, pool, groups, table, owners, history, asked)
-}
-
-// The tally with one answer more.
-fn tallied(tally: Tally, refusal: u32) -> Tally
-    ensures { λ r. ⌜ r ≡ tallyAfter tally refusal ⌝ }
-{
-    if refusal == 0 {
-        if tally.oks < 18446744073709551615 {
-            return Tally {
-                oks: tally.oks + 1,
-                noes: tally.noes,
-            };
-        }
-        return tally;
-    }
-    if tally.noes < 18446744073709551615 {
-        return Tally {
-            oks: tally.oks,
-            noes: tally.noes + 1,
-        };
-    }
-    tally
 }
 
 // Whether a reset was accepted, now that a record got a refusal or 0.
@@ -259,9 +107,9 @@ fn replied(runner: Runner, started: bool, reply: Reply) -> Answered
     let shown = reply.shown;
     let state = reply.state;
     let before = runner.tally;
-    let tally = tallied(before, refusal);
+    let tally = tally::tallied(before, refusal);
     let reader = text::no_line();
-    let line = answers::answer_line(refusal, shown);
+    let line = replies::answer_line(refusal, shown);
     Answered {
         runner: Runner {
             state,
@@ -273,8 +121,8 @@ fn replied(runner: Runner, started: bool, reply: Reply) -> Answered
     }
 }
 
-// The answer to the line that was read. (At the end of input that is the last line, if it lacks its line feed.)
-pub fn answer(
+// The answer to the line that was read.
+fn answer(
     runner: Runner,
     archive: &mut [u8],
     pool: &mut [u8],
@@ -291,11 +139,23 @@ pub fn answer(
 {
     let reader = runner.reader;
     if reader.count == 0 {
-        let line = answers::silence();
+        let line = replies::silence();
         return Answered { runner, line };
     }
     let state = runner.state;
-    match records::parse(reader) {
+    let parsed = records::parse(reader);
+    if is_early(runner.started, parsed) {
+        return replied(
+            runner,
+            runner.started,
+            Reply {
+                state,
+                refusal: 3,
+                shown: Shown::Nothing,
+            },
+        );
+    }
+    match parsed {
         Parsed::Refused(refusal) => replied(
             runner,
             runner.started,
@@ -306,17 +166,7 @@ pub fn answer(
             },
         ),
         Parsed::Asks(asked) => {
-            let reply = ask(
-                runner.started,
-                state,
-                archive,
-                pool,
-                groups,
-                table,
-                owners,
-                history,
-                asked,
-            );
+            let reply = replies::call(state, archive, pool, groups, table, owners, history, asked);
             let started = has_started(runner.started, reply.refusal);
             replied(runner, started, reply)
         }
@@ -339,7 +189,8 @@ pub fn feed(
         (now (chunk .entry))
         (r .runner)
         (lentOf (now (archive .exit)) (now (pool .exit)) (now (groups .exit)) (now (table .exit)) (now (owners .exit)) (now (history .exit)))
-        (r .line) (r .used) ⌝ }
+        (take (r .line .count) (r .line .bytes)) (r .used) ⌝ }
+    ensures { λ r. ⌜ (r .line .count ≤ 64) × (0 < length (now (chunk .entry)) → 0 < r .used) ⌝ }
 {
     let before = runner.reader;
     let taken = text::take_line(before, chunk);
@@ -354,7 +205,7 @@ pub fn feed(
         reader,
     };
     if chunk.len() <= used {
-        let line = answers::silence();
+        let line = replies::silence();
         return Fed {
             runner: next,
             line,
@@ -371,10 +222,85 @@ pub fn feed(
     }
 }
 
-// The last line of a session's output.
-pub fn end(runner: Runner) -> Line
-    ensures { λ r. ⌜ Says r (endLine (runner .tally .oks) (runner .tally .noes)) ⌝ }
+// Takes bytes of input while the output has room for a line, and puts there what the runner says to them.
+pub fn feed_all(
+    runner: Runner,
+    archive: &mut [u8],
+    pool: &mut [u8],
+    groups: &mut [u32],
+    table: &mut [u16],
+    owners: &mut [u32],
+    history: &mut [u16],
+    chunk: &[u8],
+    out: &mut [u8],
+) -> Told
+    ensures { λ r. ⌜ Continues runner
+        (lentOf (now (archive .entry)) (now (pool .entry)) (now (groups .entry)) (now (table .entry)) (now (owners .entry)) (now (history .entry)))
+        (now (chunk .entry))
+        (r .runner)
+        (lentOf (now (archive .exit)) (now (pool .exit)) (now (groups .exit)) (now (table .exit)) (now (owners .exit)) (now (history .exit)))
+        (take (r .filled) (now (out .exit))) (r .used) ⌝ }
+    ensures { λ r. ⌜ (r .filled ≤ length (now (out .exit))) × (64 ≤ length (now (out .entry)) → 0 < length (now (chunk .entry)) → 0 < r .used) ⌝ }
 {
-    let tally = runner.tally;
-    answers::end_line(tally.oks, tally.noes)
+    let count = chunk.len();
+    let room = out.len();
+    let mut current = runner;
+    let mut used = 0;
+    let mut filled = 0;
+    while used < count {
+        if room - filled < 64 {
+            return Told {
+                runner: current,
+                used,
+                filled,
+            };
+        }
+        let fed = feed(
+            current,
+            archive,
+            pool,
+            groups,
+            table,
+            owners,
+            history,
+            &chunk[used..],
+        );
+        current = fed.runner;
+        used = used + fed.used;
+        let line = fed.line;
+        filled = replies::put_line(out, filled, line);
+    }
+    Told {
+        runner: current,
+        used,
+        filled,
+    }
+}
+
+// The end of input: puts the answer to a last line without its line feed, and the tally. An output of less than 128 bytes is left alone.
+pub fn finish(
+    runner: Runner,
+    archive: &mut [u8],
+    pool: &mut [u8],
+    groups: &mut [u32],
+    table: &mut [u16],
+    owners: &mut [u32],
+    history: &mut [u16],
+    out: &mut [u8],
+) -> usize
+    ensures { λ r. ⌜ (r ≤ length (now (out .exit)))
+        × (128 ≤ length (now (out .entry)) → Ends runner
+        (lentOf (now (archive .entry)) (now (pool .entry)) (now (groups .entry)) (now (table .entry)) (now (owners .entry)) (now (history .entry)))
+        (take r (now (out .exit)))) ⌝ }
+{
+    if out.len() < 128 {
+        return 0;
+    }
+    let answered = answer(runner, archive, pool, groups, table, owners, history);
+    let after = answered.runner;
+    let line = answered.line;
+    let behind = replies::put_line(out, 0, line);
+    let tally = after.tally;
+    let last = replies::end_line(tally.oks, tally.noes);
+    replies::put_line(out, behind, last)
 }

@@ -12,7 +12,10 @@ silence-requires : tie.Need-silence-requires
 silence-requires c κs = search needs
 
 returns : tie.Need-returns
-returns c = continues-within _ _ _ _ _ (c .before .before .before .before .before .take-line .ensures .0) (c .before .before .before .before .before .take-line .ensures .1) _ (c .before .if1 .taken) (c .silence .ensures)
+returns c = (
+  continues-within _ _ _ _ _ (c .before .before .before .before .before .take-line .ensures .0) (c .before .before .before .before .before .take-line .ensures .1) _ (c .before .if1 .taken) (c .silence .ensures),
+  (c .silence .ensures .few, λ h. omega (arith, h, c .before .if1 .taken)),
+)
 
 answer-requires : tie.Need-answer-requires
 answer-requires c κs = search needs
@@ -39,7 +42,10 @@ same-length-6 : tie.Need-same-length-6
 same-length-6 c = search needs
 
 returns-2 : tie.Need-returns-2
-returns-2 c = continues-line _ _ _ _ _ (c .before .before .before .before .before .before .before .before .before .before .before .before .before .before .before .before .before .before .before .before .before .before .before .before .before .take-line .ensures .0) (c .before .before .before .before .before .before .before .before .before .before .before .before .before .before .before .before .before .before .before .before .before .before .before .before .before .take-line .ensures .1) _ _ _ (c .before .before .before .before .before .before .before .before .before .before .before .before .before .before .before .before .before .before .before .before .before .if1 .left) (c .before .before .before .before .before .before .before .before .before .before .before .before .before .before .answer .ensures)
+returns-2 c = (
+  continues-line _ _ _ _ _ (c .before .before .before .before .before .before .before .before .before .before .before .before .before .before .before .before .before .before .before .before .before .before .before .before .before .take-line .ensures .0) (c .before .before .before .before .before .before .before .before .before .before .before .before .before .before .before .before .before .before .before .before .before .before .before .before .before .take-line .ensures .1) _ _ _ (c .before .before .before .before .before .before .before .before .before .before .before .before .before .before .before .before .before .before .before .before .before .if1 .left) (c .before .before .before .before .before .before .before .before .before .before .before .before .before .before .answer .ensures),
+  (c .before .before .before .before .before .before .before .before .before .before .before .before .before .before .answer .ensures .few, λ h. omega arith),
+)
 
 pub feed-spec : {M : Type 1} → statement M
 feed-spec =

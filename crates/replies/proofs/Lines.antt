@@ -1,0 +1,84 @@
+-- Lines of output: how long their texts are, and the texts put in parts. Assumes nothing.
+use mathlib.Core.Path.{_≡_, refl}
+use mathlib.Core.Logic.{_≢_}
+use mathlib.Core.Bool.{Bool, true, false, cond}
+use mathlib.Core.List.{[], _∷_, _++_}
+use Prim.Native.Nat.{ℕ, _+_, _≤_}
+use native.Mathlib.Omega.{arith}
+use borrow.Author.Tests.{eq-eqb, ne-eqb}
+use lib.Dec.{eqb}
+use lib.ListN.{length, take, length-take, length-append}
+use Rattle.text.specs.Parts.{Text}
+use Rattle.text.specs.Numbers.{decimal}
+use Rattle.text.specs.Output.{Puts}
+use Rattle.text.proofs.Putting.{decimal-few, puts-head}
+use Rattle.rules.specs.Call.{Origin, Answer, numberIn}
+use Rattle.rules.specs.Call.Origin.{from-cache, from-frame, from-archive}
+use Rattle.rules.specs.Call.Answer.{outcome, reading, lending, counting, verdict}
+use Rattle.replies.specs.declared.Shown.{Shown}
+use Rattle.replies.specs.declared.Shown.the-variants.{Nothing, Read, Counts}
+use Rattle.replies.specs.Answers.{originText, valuesText, okLine, noLine, answerLine, endLine}
+use Rattle.replies.specs.Lines.{answerOf, Says}
+
+-- The places behind a tab and a number, and behind the fields of an answer.
+pub number-ends : {before after : Text} {at behind : ℕ} (n : ℕ) → Puts before at (9 ∷ decimal n) after behind → behind ≤ at + 21
+number-ends n p = omega (arith, decimal-few n)
+
+origin-few : (o : Origin) → length (originText o) ≤ 20
+unfolding originText
+origin-few from-cache = omega arith
+origin-few (from-frame back) = decimal-few back
+origin-few from-archive = omega arith
+
+values-few : (a : Answer) → length (valuesText a) ≤ 42
+unfolding valuesText
+values-few (outcome n) = omega arith
+values-few (reading n value origin) = simp length-append (omega (arith, decimal-few value, origin-few origin))
+values-few (lending line) = omega arith
+values-few (counting n live pages) = simp length-append (omega (arith, decimal-few live, decimal-few pages))
+values-few (verdict n says) = omega arith
+
+pub values-ends : {before after : Text} {at behind : ℕ} (a : Answer) → Puts before at (valuesText a) after behind → behind ≤ at + 42
+values-ends a p = omega (arith, values-few a)
+
+-- No line is longer than 64 bytes.
+pub answer-few : (a : Answer) → length (answerLine a) ≤ 64
+unfolding answerLine okLine noLine
+answer-few a = go (eqb (numberIn a) 0)
+  where
+    go : (t : Bool) → length (cond t (okLine a) (noLine (numberIn a))) ≤ 64
+    go true = simp length-append (omega (arith, values-few a))
+    go false = simp length-append (omega (arith, decimal-few (numberIn a)))
+
+pub end-few : (oks noes : ℕ) → length (endLine oks noes) ≤ 64
+unfolding endLine
+end-few oks noes = simp length-append (omega (arith, decimal-few oks, decimal-few noes))
+
+-- A text of at most 64 bytes, put at the start, is what the line says.
+pub says : {before text bytes : Text} {count : ℕ} → Puts before 0 text bytes count → length text ≤ 64 → Says (record { bytes = bytes; count = count }) text
+says {before} {text} {bytes} {count} p h = record { few = omega arith; bytes = puts-head before 0 text bytes count (omega arith) p }
+
+-- The texts of an answer line.
+pub number-of : (n : ℕ) (shown : Shown) → numberIn (answerOf n shown) ≡ n
+unfolding numberIn answerOf
+number-of n Nothing = refl
+number-of n (Read value origin) = refl
+number-of n (Counts live pages) = refl
+
+values-of : (n : ℕ) (shown : Shown) → valuesText (answerOf 0 shown) ≡ valuesText (answerOf n shown)
+unfolding valuesText answerOf
+values-of n Nothing = refl
+values-of n (Read value origin) = refl
+values-of n (Counts live pages) = refl
+
+pub line-of-no : (n : ℕ) (shown : Shown) → n ≢ 0 → (110 ∷ 111 ∷ []) ++ ((9 ∷ decimal n) ++ (10 ∷ [])) ≡ answerLine (answerOf n shown)
+unfolding answerLine noLine
+line-of-no n shown h = rw (number-of, ne-eqb n 0 h)
+
+pub line-of-ok : (n : ℕ) (shown : Shown) → n ≡ 0 → (111 ∷ 107 ∷ []) ++ (valuesText (answerOf 0 shown) ++ (10 ∷ [])) ≡ answerLine (answerOf n shown)
+unfolding answerLine okLine
+line-of-ok n shown h = rw (number-of, eq-eqb n 0 h, values-of n)
+
+-- There is room for what a line says.
+pub line-room : (bytes : Text) (count at long : ℕ) → count ≤ 64 → at + 64 ≤ long → at + length (take count bytes) ≤ long
+line-room bytes count at long h k = omega (arith, length-take count bytes)

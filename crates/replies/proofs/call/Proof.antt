@@ -1,0 +1,291 @@
+-- `replies::call` meets its contract: each record's call has the promise that the store's function ensures. Assumes nothing.
+use borrow.Author.Needs.{needs}
+use Rattle.replies.specs.Calls.{callOf}
+use Rattle.replies.specs.Lines.{answerOf}
+use Rattle.replies.proofs.Calls.{promised, promised-plain}
+use Rattle.replies.proofs.call.Statement.{statement}
+use Rattle.replies.proofs.call.Tie as tie
+
+enum-known-asked : tie.Need-enum-known-asked
+enum-known-asked c = search needs
+
+reset-requires : tie.Need-reset-requires
+reset-requires c κs = search needs
+
+plain-requires : tie.Need-plain-requires
+plain-requires c κs = search needs
+
+enum-known-asked-2 : tie.Need-enum-known-asked-2
+enum-known-asked-2 c = search needs
+
+read-requires : tie.Need-read-requires
+read-requires c κs = search needs
+
+enum-known-asked-3 : tie.Need-enum-known-asked-3
+enum-known-asked-3 c = search needs
+
+write-requires : tie.Need-write-requires
+write-requires c κs = search needs
+
+plain-requires-2 : tie.Need-plain-requires-2
+plain-requires-2 c κs = search needs
+
+enum-told : tie.Need-enum-told
+enum-told c = search needs
+
+mark-requires : tie.Need-mark-requires
+mark-requires c κs = search needs
+
+plain-requires-3 : tie.Need-plain-requires-3
+plain-requires-3 c κs = search needs
+
+enum-known-asked-4 : tie.Need-enum-known-asked-4
+enum-known-asked-4 c = search needs
+
+rollback-requires : tie.Need-rollback-requires
+rollback-requires c κs = search needs
+
+plain-requires-4 : tie.Need-plain-requires-4
+plain-requires-4 c κs = search needs
+
+enum-known-asked-5 : tie.Need-enum-known-asked-5
+enum-known-asked-5 c = search needs
+
+advance-requires : tie.Need-advance-requires
+advance-requires c κs = search needs
+
+plain-requires-5 : tie.Need-plain-requires-5
+plain-requires-5 c κs = search needs
+
+enum-told-2 : tie.Need-enum-told-2
+enum-told-2 c = search needs
+
+counts-requires : tie.Need-counts-requires
+counts-requires c κs = search needs
+
+same-length : tie.Need-same-length
+same-length c = search needs
+
+same-length-2 : tie.Need-same-length-2
+same-length-2 c = search needs
+
+same-length-3 : tie.Need-same-length-3
+same-length-3 c = search needs
+
+same-length-4 : tie.Need-same-length-4
+same-length-4 c = search needs
+
+same-length-5 : tie.Need-same-length-5
+same-length-5 c = search needs
+
+same-length-6 : tie.Need-same-length-6
+same-length-6 c = search needs
+
+returns : tie.Need-returns
+unfolding callOf answerOf
+returns c = promised-plain _ _ _ _ _ _ _ _ (c .before .before .before .before .before .before .before .before .before .before .before .before .before .before .before .asked .given .1) (c .plain .ensures .0) (c .plain .ensures .1) (c .before .before .before .before .before .before .before .reset .ensures .0)
+
+same-length-7 : tie.Need-same-length-7
+same-length-7 c = search needs
+
+same-length-8 : tie.Need-same-length-8
+same-length-8 c = search needs
+
+same-length-9 : tie.Need-same-length-9
+same-length-9 c = search needs
+
+same-length-10 : tie.Need-same-length-10
+same-length-10 c = search needs
+
+same-length-11 : tie.Need-same-length-11
+same-length-11 c = search needs
+
+same-length-12 : tie.Need-same-length-12
+same-length-12 c = search needs
+
+returns-2 : tie.Need-returns-2
+unfolding callOf answerOf
+returns-2 c = promised _ _ _ _ _ (c .before .before .before .before .before .before .before .before .before .asked2 .given .1) (c .before .read .ensures .0)
+
+same-length-13 : tie.Need-same-length-13
+same-length-13 c = search needs
+
+same-length-14 : tie.Need-same-length-14
+same-length-14 c = search needs
+
+same-length-15 : tie.Need-same-length-15
+same-length-15 c = search needs
+
+same-length-16 : tie.Need-same-length-16
+same-length-16 c = search needs
+
+same-length-17 : tie.Need-same-length-17
+same-length-17 c = search needs
+
+same-length-18 : tie.Need-same-length-18
+same-length-18 c = search needs
+
+returns-3 : tie.Need-returns-3
+unfolding callOf answerOf
+returns-3 c = promised-plain _ _ _ _ _ _ _ _ (c .before .before .before .before .before .before .before .before .before .before .before .before .before .before .before .before .before .asked3 .given .1) (c .plain2 .ensures .0) (c .plain2 .ensures .1) (c .before .before .before .before .before .before .before .before .before .write .ensures .0)
+
+same-length-19 : tie.Need-same-length-19
+same-length-19 c = search needs
+
+same-length-20 : tie.Need-same-length-20
+same-length-20 c = search needs
+
+same-length-21 : tie.Need-same-length-21
+same-length-21 c = search needs
+
+same-length-22 : tie.Need-same-length-22
+same-length-22 c = search needs
+
+same-length-23 : tie.Need-same-length-23
+same-length-23 c = search needs
+
+same-length-24 : tie.Need-same-length-24
+same-length-24 c = search needs
+
+returns-4 : tie.Need-returns-4
+unfolding callOf answerOf
+returns-4 c = promised-plain _ _ _ _ _ _ _ _ (c .before .before .before .before .before .before .before .before .enum-told .given .1) (c .plain3 .ensures .0) (c .plain3 .ensures .1) (c .before .mark .ensures .0)
+
+same-length-25 : tie.Need-same-length-25
+same-length-25 c = search needs
+
+same-length-26 : tie.Need-same-length-26
+same-length-26 c = search needs
+
+same-length-27 : tie.Need-same-length-27
+same-length-27 c = search needs
+
+same-length-28 : tie.Need-same-length-28
+same-length-28 c = search needs
+
+same-length-29 : tie.Need-same-length-29
+same-length-29 c = search needs
+
+same-length-30 : tie.Need-same-length-30
+same-length-30 c = search needs
+
+returns-5 : tie.Need-returns-5
+unfolding callOf answerOf
+returns-5 c = promised-plain _ _ _ _ _ _ _ _ (c .before .before .before .before .before .before .before .before .before .before .before .before .before .asked4 .given .1) (c .plain4 .ensures .0) (c .plain4 .ensures .1) (c .before .before .before .before .before .rollback .ensures .0)
+
+same-length-31 : tie.Need-same-length-31
+same-length-31 c = search needs
+
+same-length-32 : tie.Need-same-length-32
+same-length-32 c = search needs
+
+same-length-33 : tie.Need-same-length-33
+same-length-33 c = search needs
+
+same-length-34 : tie.Need-same-length-34
+same-length-34 c = search needs
+
+same-length-35 : tie.Need-same-length-35
+same-length-35 c = search needs
+
+same-length-36 : tie.Need-same-length-36
+same-length-36 c = search needs
+
+returns-6 : tie.Need-returns-6
+unfolding callOf answerOf
+returns-6 c = promised-plain _ _ _ _ _ _ _ _ (c .before .before .before .before .before .before .before .before .before .before .before .before .before .before .before .asked5 .given .1) (c .plain5 .ensures .0) (c .plain5 .ensures .1) (c .before .before .before .before .before .before .before .advance .ensures .0)
+
+same-length-37 : tie.Need-same-length-37
+same-length-37 c = search needs
+
+same-length-38 : tie.Need-same-length-38
+same-length-38 c = search needs
+
+same-length-39 : tie.Need-same-length-39
+same-length-39 c = search needs
+
+same-length-40 : tie.Need-same-length-40
+same-length-40 c = search needs
+
+same-length-41 : tie.Need-same-length-41
+same-length-41 c = search needs
+
+same-length-42 : tie.Need-same-length-42
+same-length-42 c = search needs
+
+returns-7 : tie.Need-returns-7
+unfolding callOf answerOf
+returns-7 c = promised _ _ _ _ _ (c .before .before .before .before .before .before .before .enum-told2 .given .1) (c .counts .ensures)
+
+pub call-spec : {M : Type 1} → statement M
+call-spec =
+    tie.close
+    (tie.spec
+    enum-known-asked
+    reset-requires
+    plain-requires
+    enum-known-asked-2
+    read-requires
+    enum-known-asked-3
+    write-requires
+    plain-requires-2
+    enum-told
+    mark-requires
+    plain-requires-3
+    enum-known-asked-4
+    rollback-requires
+    plain-requires-4
+    enum-known-asked-5
+    advance-requires
+    plain-requires-5
+    enum-told-2
+    counts-requires
+    same-length
+    same-length-2
+    same-length-3
+    same-length-4
+    same-length-5
+    same-length-6
+    returns
+    same-length-7
+    same-length-8
+    same-length-9
+    same-length-10
+    same-length-11
+    same-length-12
+    returns-2
+    same-length-13
+    same-length-14
+    same-length-15
+    same-length-16
+    same-length-17
+    same-length-18
+    returns-3
+    same-length-19
+    same-length-20
+    same-length-21
+    same-length-22
+    same-length-23
+    same-length-24
+    returns-4
+    same-length-25
+    same-length-26
+    same-length-27
+    same-length-28
+    same-length-29
+    same-length-30
+    returns-5
+    same-length-31
+    same-length-32
+    same-length-33
+    same-length-34
+    same-length-35
+    same-length-36
+    returns-6
+    same-length-37
+    same-length-38
+    same-length-39
+    same-length-40
+    same-length-41
+    same-length-42
+    returns-7)

@@ -18,7 +18,7 @@ use Rattle.rules.specs.Call.Answer.{outcome, reading, lending, counting, verdic
 use Rattle.replies.specs.declared.Shown.{Shown}
 use Rattle.replies.specs.declared.Shown.the-variants.{Nothing, Read, Counts}
 use Rattle.replies.specs.Answers.{originText, valuesText, okLine, noLine, answerLine, endLine}
-use Rattle.replies.specs.Lines.{answerOf, Says}
+use Rattle.replies.specs.Lines.{answerOf, HoldsText}
 
 -- The places behind a tab and a number, and behind the fields of an answer.
 pub number-ends : {before after : Text} {at behind : ℕ} (n : ℕ) → Puts before at (9 ∷ decimal n) after behind → behind ≤ at + 21
@@ -54,9 +54,9 @@ pub end-few : (oks noes : ℕ) → length (endLine oks noes) ≤ 64
 unfolding endLine
 end-few oks noes = simp length-append (omega (arith, decimal-few oks, decimal-few noes))
 
--- A text of at most 64 bytes, put at the start, is what the line says.
-pub says : {before text bytes : Text} {count : ℕ} → Puts before 0 text bytes count → length text ≤ 64 → Says (record { bytes = bytes; count = count }) text
-says {before} {text} {bytes} {count} p h = record { few = omega arith; bytes = puts-head before 0 text bytes count (omega arith) p }
+-- A text of at most 64 bytes, put at the start, is what the line holds-text.
+pub holds-text : {before text bytes : Text} {count : ℕ} → Puts before 0 text bytes count → length text ≤ 64 → HoldsText (record { bytes = bytes; count = count }) text
+holds-text {before} {text} {bytes} {count} p h = record { few = omega arith; bytes = puts-head before 0 text bytes count (omega arith) p }
 
 -- The texts of an answer line.
 pub number-of : (n : ℕ) (shown : Shown) → numberIn (answerOf n shown) ≡ n
@@ -79,6 +79,6 @@ pub line-of-ok : (n : ℕ) (shown : Shown) → n ≡ 0 → (111 ∷ 107 ∷ []) 
 unfolding answerLine okLine
 line-of-ok n shown h = rw (number-of, eq-eqb n 0 h, values-of n)
 
--- There is room for what a line says.
+-- There is room for what a line holds-text.
 pub line-room : (bytes : Text) (count at long : ℕ) → count ≤ 64 → at + 64 ≤ long → at + length (take count bytes) ≤ long
 line-room bytes count at long h k = omega (arith, length-take count bytes)

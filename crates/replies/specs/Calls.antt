@@ -5,7 +5,8 @@ use Rattle.rules.specs.Sizing.{settingsOf}
 use Rattle.rules.specs.Call.{Call}
 use Rattle.rules.specs.Call.Call.{RESET, WRITE, READ, MARK, ROLLBACK, ADVANCE, COUNTS}
 
--- The call that a record asks for.
+-- "Records: `reset` L F P; `read` width address; `write` width address value; `mark`; `back` k; `advance` k; `counts`", and the call that each asks
+-- for.
 unfoldable pub callOf : Record → Call
 callOf (Reset lines frames pages) = RESET (settingsOf lines frames pages)
 callOf (Read width address) = READ width address

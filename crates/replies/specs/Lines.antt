@@ -17,6 +17,6 @@ answerOf n (Read value origin) = reading n value (shownOrigin origin)
 answerOf n (Counts live pages) = counting n live pages
 
 -- A line of output holds a text.
-pub record Says (line : Line) (text : Text) : Type 0 where
+pub record HoldsText (line : Line) (text : Text) : Type 0 where
   pub few : line .count ≤ 64
   pub bytes : take (line .count) (line .bytes) ≡ text

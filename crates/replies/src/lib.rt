@@ -13,7 +13,7 @@ ghost use Rattle.rules.specs.Call.Answer.{outcome};
 ghost use Rattle.store.specs.Shown.{shownOrigin, lentOf, kept, Promises};
 ghost use Rattle.replies.specs.Calls.{callOf};
 ghost use Rattle.replies.specs.Answers.{originText, valuesText, answerLine, endLine};
-ghost use Rattle.replies.specs.Lines.{answerOf, Says};
+ghost use Rattle.replies.specs.Lines.{answerOf, HoldsText};
 
 // What stands behind `ok`.
 pub enum Shown {
@@ -84,7 +84,7 @@ fn put_answer(out: &mut [u8], refusal: u32, shown: Shown) -> usize
 
 // The answer line of a refusal or 0.
 pub fn answer_line(refusal: u32, shown: Shown) -> Line
-    ensures { λ r. ⌜ Says r (answerLine (answerOf refusal shown)) ⌝ }
+    ensures { λ r. ⌜ HoldsText r (answerLine (answerOf refusal shown)) ⌝ }
 {
     let mut bytes = [0u8; 64];
     let count = put_answer(&mut bytes, refusal, shown);
@@ -92,8 +92,8 @@ pub fn answer_line(refusal: u32, shown: Shown) -> Line
 }
 
 // No line.
-pub fn silence() -> Line
-    ensures { λ r. ⌜ Says r [] ⌝ }
+pub fn no_text() -> Line
+    ensures { λ r. ⌜ HoldsText r [] ⌝ }
 {
     let bytes = [0u8; 64];
     Line { bytes, count: 0 }
@@ -121,7 +121,7 @@ fn put_end(out: &mut [u8], oks: u64, noes: u64) -> usize
 
 // The line of the tally, which is printed last.
 pub fn end_line(oks: u64, noes: u64) -> Line
-    ensures { λ r. ⌜ Says r (endLine oks noes) ⌝ }
+    ensures { λ r. ⌜ HoldsText r (endLine oks noes) ⌝ }
 {
     let mut bytes = [0u8; 64];
     let count = put_end(&mut bytes, oks, noes);
@@ -136,7 +136,7 @@ pub struct Reply {
 }
 
 // What a call that gives a refusal or 0 alone gave.
-fn plain(done: Outcome) -> Reply
+fn outcome_reply(done: Outcome) -> Reply
     ensures { λ r. ⌜ (r .state ≡ done .state) × (answerOf (r .refusal) (r .shown) ≡ outcome (done .refusal)) ⌝ }
 {
     let state = done.state;
@@ -164,7 +164,7 @@ pub fn call(
         (kept (r .state) (lentOf (now (archive .exit)) (now (pool .exit)) (now (groups .exit)) (now (table .exit)) (now (owners .exit)) (now (history .exit)))) ⌝ }
 {
     match asked {
-        Record::Reset(lines, frames, pages) => plain(store::reset(
+        Record::Reset(lines, frames, pages) => outcome_reply(store::reset(
             state,
             archive,
             pool,
@@ -196,7 +196,7 @@ pub fn call(
                 shown: Shown::Read(got.value, origin),
             }
         }
-        Record::Write(width, address, value) => plain(store::write(
+        Record::Write(width, address, value) => outcome_reply(store::write(
             state,
             archive,
             pool,
@@ -208,8 +208,16 @@ pub fn call(
             address,
             value,
         )),
-        Record::Mark => plain(store::mark(state, archive, pool, groups, table, owners, history)),
-        Record::Back(k) => plain(store::rollback(
+        Record::Mark => outcome_reply(store::mark(
+            state,
+            archive,
+            pool,
+            groups,
+            table,
+            owners,
+            history,
+        )),
+        Record::Back(k) => outcome_reply(store::rollback(
             state,
             archive,
             pool,
@@ -219,7 +227,7 @@ pub fn call(
             history,
             k,
         )),
-        Record::Advance(k) => plain(store::advance(
+        Record::Advance(k) => outcome_reply(store::advance(
             state,
             archive,
             pool,

@@ -139,7 +139,7 @@ plainFacts lengths p c =
       full = noPage (p .settings) (plainSeen p) c;
     }
 
--- The plain store, with "demand 2's cache, run over the same list" beside it.
+-- The plain store, with "demand 2's cache, run over the same list" (demand 3) beside it.
 pub record Model : Type 0 where
   pub plain : Plain
   pub cache : Cache

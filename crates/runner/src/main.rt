@@ -3,8 +3,11 @@
 use libc::STDIN_FILENO;
 use libc::STDOUT_FILENO;
 use session::Runner;
+ghost use mathlib.Core.Path.{_≡_};
 ghost use Prim.Native.Nat.{_≤_};
 ghost use lib.ListN.{length};
+ghost use Rattle.store.specs.Shown.{lentLengths};
+ghost use Rattle.session.specs.Transcript.{runnerLent};
 
 // The runner after a read, whether to go on, and whether all went well.
 struct Read {
@@ -70,7 +73,8 @@ fn answer_chunk(
     }
 }
 
-// Reads once and answers the lines that end in what came. The end of input and a failed read are not gone on from.
+// Reads once and answers the lines that end in what came. After the end of input or a failed read there is no more; a read that a signal
+// interrupted is tried again.
 fn read_some(
     runner: Runner,
     archive: &mut [u8],
@@ -86,6 +90,13 @@ fn read_some(
     let mut input = io::large_buffer();
     let got = libc::read(STDIN_FILENO, &mut input);
     if got < 0 {
+        if os::errno() == libc::EINTR {
+            return Read {
+                runner,
+                more: true,
+                ok: true,
+            };
+        }
         os::fail(b"session: read");
         return Read {
             runner,
@@ -114,7 +125,7 @@ fn read_some(
     )
 }
 
-// Answers the input to its end or to a failure. A proved loop has to end, and nothing says that the input does: so the reads are counted down
+// Answers the input to its end or to a failure. A proved loop has to end, and nothing holds-text that the input does: so the reads are counted down
 // from a number that no run uses up.
 fn read_all(
     archive: &mut [u8],
@@ -125,7 +136,8 @@ fn read_all(
     history: &mut [u16],
     out: &mut [u8],
 ) -> Read
-    requires { ⌜ 64 ≤ length (now out) ⌝ }
+    requires { ⌜ (64 ≤ length (now out))
+        × (lentLengths (now archive) (now pool) (now groups) (now table) (now owners) (now history) ≡ runnerLent) ⌝ }
 {
     let mut runner = session::start();
     let mut turns = u64::MAX;
@@ -144,7 +156,7 @@ fn read_all(
     Read {
         runner,
         more: false,
-        ok: true,
+        ok: false,
     }
 }
 

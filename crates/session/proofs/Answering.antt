@@ -21,17 +21,17 @@ use Rattle.replies.specs.declared.Line.{Line}
 use Rattle.replies.specs.declared.Shown.{Shown}
 use Rattle.replies.specs.declared.Shown.the-variants.{Nothing}
 use Rattle.replies.specs.Answers.{answerLine}
-use Rattle.replies.specs.Lines.{answerOf, Says}
+use Rattle.replies.specs.Lines.{answerOf, HoldsText}
 use Rattle.replies.specs.Calls.{callOf}
 use Rattle.session.specs.Transcript.{Store, Running, beginning, counted, storeAfter, lineAnswer, lineStore, lineText, lineAfter}
-use Rattle.session.specs.Running.{early, startedAfter, Stored, Asked, Replied, Stands, AnswersLine}
+use Rattle.session.specs.Running.{early, startedAfter, Stored, Asked, Replied, StandsFor, AnswersLine}
 use Rattle.replies.proofs.Lines.{number-of}
 use Rattle.session.proofs.Asking.{started-suc, asked-early, asked-call}
-use Rattle.session.proofs.Tallies.{Beside, beside-next, counted-store}
+use Rattle.session.proofs.Tallies.{SameTally, tally-next, counted-store}
 
 -- The runner before its first line.
 pub stands-first : (state : StoreState) (reader : Reader) (lent : Lent) → Holds reader []
-    → Stands (record { state = state; started = false; tally = record { oks = 0; noes = 0 }; reader = reader }) lent beginning []
+    → StandsFor (record { state = state; started = false; tally = record { oks = 0; noes = 0 }; reader = reader }) lent beginning []
 unfolding beginning
 stands-first state reader lent h = record { reader = h; oks = refl; noes = refl; store = refl }
 
@@ -40,7 +40,7 @@ empty-line : (r : Reader) (begun : Text) → Holds r begun → r .count ≡ 0 �
 empty-line r [] q e = refl
 empty-line r (b ∷ bs) q e = absurd (omega (arith, q .counted))
 
-pub answers-nothing : (r : Runner) (m : Lent) (out : Line) → r .reader .count ≡ 0 → Says out [] → AnswersLine r m r m out
+pub answers-nothing : (r : Runner) (m : Lent) (out : Line) → r .reader .count ≡ 0 → HoldsText out [] → AnswersLine r m r m out
 unfolding lineText lineAfter
 answers-nothing r m out e says =
     record {
@@ -50,7 +50,7 @@ answers-nothing r m out e says =
       stands =
           λ x begun q.
           let none : begun ≡ [] = empty-line (r .reader) begun (q .reader) e in
-          subst (λ (y : Running). Stands r m y []) (sym (ap (lineAfter (lengthsOf m) x) none)) (subst (Stands r m x) none q);
+          subst (λ (y : Running). StandsFor r m y []) (sym (ap (lineAfter (lengthsOf m) x) none)) (subst (StandsFor r m x) none q);
     }
 
 stored-as : (b c : Bool) (s t : StoreState) (m : Lent) (o p : Store) → c ≡ b → t ≡ s → p ≡ o → Stored b (kept s m) o → Stored c (kept t m) p
@@ -68,7 +68,7 @@ module _ (r : Runner) (before : Lent) (p : Parsed) (n : ℕ) (shown : Shown) (st
   abbrev lengths : Pieces
   lengths = lengthsOf before
 
-  module _ (x : Running) (b : ℕ) (bs : Text) (q : Stands r before x (b ∷ bs)) where
+  module _ (x : Running) (b : ℕ) (bs : Text) (q : StandsFor r before x (b ∷ bs)) where
     said : answerOf n shown ≡ lineAnswer lengths (x .store) (parsed (b ∷ bs))
     said = fit .answer (x .store) (q .store) ∙ ap (lineAnswer lengths (x .store)) (known (b ∷ bs) (q .reader))
 
@@ -76,11 +76,11 @@ module _ (r : Runner) (before : Lent) (p : Parsed) (n : ℕ) (shown : Shown) (st
     unfolding lineText
     text-some = rep .line .bytes ∙ ap answerLine said
 
-    beside : Beside (s .tally) (lineAfter lengths x (b ∷ bs))
+    beside : SameTally (s .tally) (lineAfter lengths x (b ∷ bs))
     unfolding lineAfter
     beside =
-        subst (λ (t : Tally). Beside t (counted (lineAnswer lengths (x .store) (parsed (b ∷ bs))) x (lineStore lengths (x .store) (parsed (b ∷ bs))))) (sym (rep .tally))
-        (beside-next (r .tally) x (lineAnswer lengths (x .store) (parsed (b ∷ bs))) (lineStore lengths (x .store) (parsed (b ∷ bs))) (record { oks = q .oks; noes = q .noes }) n
+        subst (λ (t : Tally). SameTally t (counted (lineAnswer lengths (x .store) (parsed (b ∷ bs))) x (lineStore lengths (x .store) (parsed (b ∷ bs))))) (sym (rep .tally))
+        (tally-next (r .tally) x (lineAnswer lengths (x .store) (parsed (b ∷ bs))) (lineStore lengths (x .store) (parsed (b ∷ bs))) (record { oks = q .oks; noes = q .noes }) n
         (ap numberIn (sym said) ∙ number-of n shown))
 
     stored : Stored (s .started) (kept (s .state) after) (lineAfter lengths x (b ∷ bs) .store)
@@ -94,11 +94,11 @@ module _ (r : Runner) (before : Lent) (p : Parsed) (n : ℕ) (shown : Shown) (st
   pub line-answered : lengthsOf after ≡ lengthsOf before → AnswersLine r before s after out
   line-answered e = record { lengths = e; few = rep .line .few; text = text; stands = stands }
     where
-      text : (x : Running) (begun : Text) → Stands r before x begun → take (out .count) (out .bytes) ≡ lineText lengths x begun
+      text : (x : Running) (begun : Text) → StandsFor r before x begun → take (out .count) (out .bytes) ≡ lineText lengths x begun
       text x [] q = absurd (some-byte (omega (arith, q .reader .counted)))
       text x (b ∷ bs) q = text-some x b bs q
 
-      stands : (x : Running) (begun : Text) → Stands r before x begun → Stands s after (lineAfter lengths x begun) []
+      stands : (x : Running) (begun : Text) → StandsFor r before x begun → StandsFor s after (lineAfter lengths x begun) []
       stands x [] q = absurd (some-byte (omega (arith, q .reader .counted)))
       stands x (b ∷ bs) q = record { reader = rep .reader; oks = beside x b bs q .oks; noes = beside x b bs q .noes; store = stored x b bs q }
 

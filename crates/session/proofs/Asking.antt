@@ -21,7 +21,7 @@ use Rattle.records.specs.declared.Parsed.the-variants.{Asks}
 use Rattle.store.specs.Shown.{Kept, lengthsKept, Promises, AnswersAs}
 use Rattle.store.proofs.Demand3.{store-starts, store-answers-next, store-goes-on}
 use Rattle.replies.specs.Calls.{callOf}
-use Rattle.session.specs.Transcript.{Store, resetTo, firstRefusal, firstStore, answerTo, storeAfter}
+use Rattle.session.specs.Transcript.{Store, resetTo, unstartedRefusal, unstartedStore, answerTo, storeAfter}
 use Rattle.session.specs.Running.{isOther, early, startedAfter, Stored, Asked}
 
 -- A record in the form in which a match has it.
@@ -63,13 +63,13 @@ pub started-not : (b : Bool) (n : ℕ) → b ≡ false → (n ≡ 0 → ⊥) →
 started-not b n e d = sym (started-false b n e d)
 
 -- The answer and the store before the first accepted reset, by what a record asks for; and afterwards.
-first-answer : (lengths : Pieces) (r : Record) (o : Option Settings) → resetTo r ≡ o → answerTo lengths none r ≡ outcome (firstRefusal lengths o)
+first-answer : (lengths : Pieces) (r : Record) (o : Option Settings) → resetTo r ≡ o → answerTo lengths none r ≡ outcome (unstartedRefusal lengths o)
 unfolding answerTo
-first-answer lengths r o e = ap (λ (x : Option Settings). outcome (firstRefusal lengths x)) e
+first-answer lengths r o e = ap (λ (x : Option Settings). outcome (unstartedRefusal lengths x)) e
 
-first-store : (lengths : Pieces) (r : Record) (o : Option Settings) → resetTo r ≡ o → storeAfter lengths none r ≡ firstStore lengths o
+first-store : (lengths : Pieces) (r : Record) (o : Option Settings) → resetTo r ≡ o → storeAfter lengths none r ≡ unstartedStore lengths o
 unfolding storeAfter
-first-store lengths r o e = ap (firstStore lengths) e
+first-store lengths r o e = ap (unstartedStore lengths) e
 
 module _ (s t : Kept) (r : Record) (a : Answer) (m : Model) where
   later-answer : AnswersAs s m → Promises (callOf r) s a t → a ≡ answerTo (lengthsKept s) (some m) r
@@ -87,7 +87,7 @@ other-none none e = refl
 other-none (some asked) e = absurd (false≢true e)
 
 pub asked-early : (started : Bool) (r : Record) (s : Kept) → started ≡ false → isOther (resetTo r) ≡ true → Asked started r s (outcome 3) s
-unfolding firstRefusal firstStore numberIn
+unfolding unstartedRefusal unstartedStore numberIn
 asked-early started r s b e = record { lengths = refl; answer = answer; after = after }
   where
     answer : (o : Store) → Stored started s o → outcome 3 ≡ answerTo (lengthsKept s) o r
@@ -116,7 +116,7 @@ record First (r : Record) (s : Kept) (a : Answer) (t : Kept) : Type 0 where
   stored : Stored (startedAfter false (numberIn a)) t (storeAfter (lengthsKept s) none r)
 
 first-reset : (r : Record) (s t : Kept) (asked : Settings) (a : Answer) → resetTo r ≡ some asked → Promises (RESET asked) s a t → First r s a t
-unfolding firstRefusal firstStore numberIn
+unfolding unstartedRefusal unstartedStore numberIn
 first-reset r s t asked a e h =
     record {
       answer = first-number s t asked a h ∙ sym (first-answer (lengthsKept s) r (some asked) e);

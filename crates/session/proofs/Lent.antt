@@ -1,15 +1,18 @@
--- The memory that the runner lends: 6 comes exactly for otherwise good settings past it. Assumes nothing.
+-- The memory that the runner lends: a reset gets 6 exactly for otherwise good settings past it. And the empty session. Assumes nothing.
 use mathlib.Core.Path.{_≡_, refl, ap}
+use mathlib.Core.List.{[]}
 use mathlib.Core.Bool.{Bool, true, false, _&&_}
 use Prim.Native.Nat.{ℕ, _*_, _/_, _≤_, _<_}
 use native.Mathlib.Nat.{mul-le-mul-right, le-trans}
 use native.Mathlib.Omega.{arith}
 use borrow.Author.Tests.{leb-true, leb-false, le-leb, lt-leb}
 use lib.Dec.{leb}
-use Rattle.rules.specs.Settings.{Settings, within, elements, enough}
+use Rattle.rules.specs.Settings.{Settings, Pieces, within, elements, enough}
 use Rattle.rules.specs.Refusal.{unless, askedRefusal}
 use Rattle.rules.proofs.Settings.{Good, within-good}
-use Rattle.session.specs.Transcript.{runnerLent}
+use Rattle.text.specs.Parts.{split}
+use Rattle.replies.specs.Answers.{endLine}
+use Rattle.session.specs.Transcript.{beginning, lineText, lineAfter, answersTo, transcript, runnerLent}
 
 -- Good settings within 512 lines and 256 pages need no more of any piece.
 module _ (s : Settings) (g : Good s) where
@@ -53,3 +56,8 @@ six-exactly asked = go (within asked) refl
     go : (w : Bool) → within asked ≡ w → unless w 4 (unless (enough asked runnerLent) 6 0) ≡ unless w 4 (unless (leb (asked .lines) 512 && leb (asked .pages) 256) 6 0)
     go true e = ap (λ (b : Bool). unless b 6 0) (fits-exactly asked (within-good asked e))
     go false e = refl
+
+-- "an empty session prints only that, with 0 and 0."
+pub empty-session : (lengths : Pieces) → transcript lengths [] ≡ endLine 0 0
+unfolding transcript split answersTo lineText lineAfter beginning
+empty-session lengths = refl

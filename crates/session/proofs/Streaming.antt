@@ -17,9 +17,9 @@ use Rattle.tally.specs.Counts.{most}
 use Rattle.session.specs.declared.Runner.{Runner}
 use Rattle.replies.specs.declared.Line.{Line}
 use Rattle.replies.specs.Answers.{endLine}
-use Rattle.replies.specs.Lines.{Says}
+use Rattle.replies.specs.Lines.{HoldsText}
 use Rattle.session.specs.Transcript.{Running, beginning, lineText, lineAfter, answersTo, transcript}
-use Rattle.session.specs.Running.{Stands, AnswersLine, Continues, Ends}
+use Rattle.session.specs.Running.{StandsFor, AnswersLine, Continues, Ends}
 use Rattle.session.specs.Streamed.{Feeds}
 use Rattle.session.specs.Streamed.Feeds.{stop, next}
 use Rattle.replies.proofs.Lines.{line-room}
@@ -27,8 +27,8 @@ use Rattle.replies.proofs.Lines.{line-room}
 abbrev withReader : Runner → Reader → Runner
 withReader r reader = record { state = r .state; started = r .started; tally = r .tally; reader = reader }
 
-stands-with : (r : Runner) (m : Lent) (reader : Reader) (x : Running) (begun more : Text) → Extends (r .reader) more reader → Stands r m x begun
-    → Stands (withReader r reader) m x (begun ++ more)
+stands-with : (r : Runner) (m : Lent) (reader : Reader) (x : Running) (begun more : Text) → Extends (r .reader) more reader → StandsFor r m x begun
+    → StandsFor (withReader r reader) m x (begun ++ more)
 stands-with r m reader x begun more e q = record { reader = e begun (q .reader); oks = q .oks; noes = q .noes; store = q .store }
 
 first-line : (lengths : Pieces) (x : Running) (line : Text) (lines : List Text) (said : Text) → said ≡ lineText lengths x line
@@ -39,7 +39,7 @@ first-line lengths x line lines said e = ap (λ (t : Text). t ++ answersTo lengt
 module _ (r : Runner) (before : Lent) (chunk : Text) (reader : Reader) (used : ℕ) (here : used ≡ upTo 10 chunk)
     (taken : Extends (r .reader) (take used chunk) reader) where
   -- A chunk within a line,
-  pub continues-within : (out : Line) → length chunk ≤ used → Says out [] → Continues r before chunk (withReader r reader) before (take (out .count) (out .bytes)) used
+  pub continues-within : (out : Line) → length chunk ≤ used → HoldsText out [] → Continues r before chunk (withReader r reader) before (take (out .count) (out .bytes)) used
   continues-within out h says =
       record {
         lengths = refl;
@@ -47,9 +47,9 @@ module _ (r : Runner) (before : Lent) (chunk : Text) (reader : Reader) (used : �
         goes-on = λ x begun q. (x, begun ++ chunk, stands x begun q, λ more. same x begun more);
       }
     where
-      stands : (x : Running) (begun : Text) → Stands r before x begun → Stands (withReader r reader) before x (begun ++ chunk)
+      stands : (x : Running) (begun : Text) → StandsFor r before x begun → StandsFor (withReader r reader) before x (begun ++ chunk)
       stands x begun q =
-          subst (λ (t : Text). Stands (withReader r reader) before x (begun ++ t)) (take-all used chunk h) (stands-with r before reader x begun (take used chunk) taken q)
+          subst (λ (t : Text). StandsFor (withReader r reader) before x (begun ++ t)) (take-all used chunk h) (stands-with r before reader x begun (take used chunk) taken q)
 
       same : (x : Running) (begun more : Text)
           → answersTo (lengthsOf before) x (split 10 begun (chunk ++ more))
@@ -69,7 +69,7 @@ module _ (r : Runner) (before : Lent) (chunk : Text) (reader : Reader) (used : �
         goes-on = λ x begun q. (lineAfter (lengthsOf before) x (begun ++ take used chunk), [], a .stands x (begun ++ take used chunk) (stands x begun q), λ more. same x begun more q);
       }
     where
-      stands : (x : Running) (begun : Text) → Stands r before x begun → Stands (withReader r reader) before x (begun ++ take used chunk)
+      stands : (x : Running) (begun : Text) → StandsFor r before x begun → StandsFor (withReader r reader) before x (begun ++ take used chunk)
       stands x begun q = stands-with r before reader x begun (take used chunk) taken q
 
       parts : (begun more : Text) → split 10 begun (chunk ++ more) ≡ (begun ++ take used chunk) ∷ split 10 [] (drop (used + 1) chunk ++ more)
@@ -79,7 +79,7 @@ module _ (r : Runner) (before : Lent) (chunk : Text) (reader : Reader) (used : �
           split-ended 10 begun chunk more (omega arith)
           ∙ ap₂ (λ (n k : ℕ). (begun ++ take n chunk) ∷ split 10 [] (drop k chunk ++ more)) up one
 
-      same : (x : Running) (begun more : Text) → Stands r before x begun
+      same : (x : Running) (begun more : Text) → StandsFor r before x begun
           → answersTo (lengthsOf before) x (split 10 begun (chunk ++ more))
           ≡ take (out .count) (out .bytes)
           ++ answersTo (lengthsOf before) (lineAfter (lengthsOf before) x (begun ++ take used chunk)) (split 10 [] (drop (used + 1) chunk ++ more))
@@ -123,17 +123,17 @@ continues-then r s t m n o chunk first second both used next-used a b e =
         ∙ ap₂ (λ (said rest : Text). said ++ answersTo (lengthsOf m) z (split 10 end (rest ++ more))) (sym e) (drop-drop next-used used chunk)))
 
 -- The output of `feed_all`, turn by turn.
-pub record Telling (r : Runner) (before : Lent) (chunk first : Text) (s : Runner) (after : Lent) (out : Text) (used filled : ℕ) : Type 0 where
+pub record Filling (r : Runner) (before : Lent) (chunk first : Text) (s : Runner) (after : Lent) (out : Text) (used filled : ℕ) : Type 0 where
   pub continues : Continues r before chunk s after (take filled out) used
   pub same-room : length out ≡ length first
   pub few : filled ≤ length out
   pub some-used : used ≡ 0 → filled ≡ 0
 
-pub telling-start : (r : Runner) (m : Lent) (chunk out : Text) → Telling r m chunk out r m out 0 0
-telling-start r m chunk out =
+pub filling-start : (r : Runner) (m : Lent) (chunk out : Text) → Filling r m chunk out r m out 0 0
+filling-start r m chunk out =
     record { continues = continues-none r m chunk [] refl; same-room = refl; few = omega arith; some-used = λ e. refl }
 
-module _ {r s : Runner} {m n : Lent} {chunk first out : Text} {used filled : ℕ} (w : Telling r m chunk first s n out used filled) where
+module _ {r s : Runner} {m n : Lent} {chunk first out : Text} {used filled : ℕ} (w : Filling r m chunk first s n out used filled) where
   -- the part of the chunk that is left, as it is handed on
   abbrev left-part : Text
   left-part = take (length chunk - used) (drop used chunk)
@@ -141,20 +141,20 @@ module _ {r s : Runner} {m n : Lent} {chunk first out : Text} {used filled : ℕ
   left-is : left-part ≡ drop used chunk
   left-is = take-all (length chunk - used) (drop used chunk) (omega (arith, length-drop used chunk))
 
-  pub telling-sum : (more : ℕ) → more ≤ length left-part → used + more ≤ length chunk
-  telling-sum more h = omega (arith, ap length left-is, length-drop used chunk, w .continues .within)
+  pub filling-sum : (more : ℕ) → more ≤ length left-part → used + more ≤ length chunk
+  filling-sum more h = omega (arith, ap length left-is, length-drop used chunk, w .continues .within)
 
-  pub telling-some : used < length chunk → 0 < length left-part
-  telling-some h = omega (arith, ap length left-is, length-drop used chunk)
+  pub filling-some : used < length chunk → 0 < length left-part
+  filling-some h = omega (arith, ap length left-is, length-drop used chunk)
 
   -- the room for a line
-  pub telling-room : (room : ℕ) → 64 ≤ room - filled → room ≡ length first → filled + 64 ≤ length out
-  telling-room room h e = omega (arith, w .same-room)
+  pub filling-room : (room : ℕ) → 64 ≤ room - filled → room ≡ length first → filled + 64 ≤ length out
+  filling-room room h e = omega (arith, w .same-room)
 
-  pub telling-next : (t : Runner) (o : Lent) (bytes after : Text) (count more behind : ℕ) → filled + 64 ≤ length out → count ≤ 64 → 0 < more
+  pub filling-next : (t : Runner) (o : Lent) (bytes after : Text) (count more behind : ℕ) → filled + 64 ≤ length out → count ≤ 64 → 0 < more
       → Continues s n left-part t o (take count bytes) more → Puts out filled (take count bytes) after behind
-      → Telling r m chunk first t o after (used + more) behind
-  telling-next t o bytes after count more behind h c k a p =
+      → Filling r m chunk first t o after (used + more) behind
+  filling-next t o bytes after count more behind h c k a p =
       let room : filled + length (take count bytes) ≤ length out = omega (arith, length-take count bytes) in
       let same : length after ≡ length out = puts-length out filled (take count bytes) after behind room p in
       record {
@@ -166,8 +166,8 @@ module _ {r s : Runner} {m n : Lent} {chunk first out : Text} {used filled : ℕ
       }
 
   -- some bytes are taken, if there are any and there is room
-  pub telling-moves : (room : ℕ) → room - filled < 64 → room ≡ length first → 64 ≤ length first → 0 < used
-  telling-moves room h e k = go used refl
+  pub filling-moves : (room : ℕ) → room - filled < 64 → room ≡ length first → 64 ≤ length first → 0 < used
+  filling-moves room h e k = go used refl
     where
       go : (u : ℕ) → used ≡ u → 0 < used
       go zero z = absurd (omega (arith, w .some-used z))
@@ -188,7 +188,7 @@ finish-room bytes count before middle behind h k p =
 
 -- and both are what the transcript ends with.
 module _ (r s : Runner) (m n : Lent) (line last : Line) (before middle after : Text) (behind end : ℕ) (a : AnswersLine r m s n line)
-    (tally : Says last (endLine (s .tally .oks) (s .tally .noes))) (p : Puts before 0 (take (line .count) (line .bytes)) middle behind)
+    (tally : HoldsText last (endLine (s .tally .oks) (s .tally .noes))) (p : Puts before 0 (take (line .count) (line .bytes)) middle behind)
     (q : Puts middle behind (take (last .count) (last .bytes)) after end) (room : 128 ≤ length before) where
   next-room : behind + 64 ≤ length middle
   next-room = finish-room (line .bytes) (line .count) before middle behind (a .few) room p
@@ -207,7 +207,7 @@ module _ (r s : Runner) (m n : Lent) (line last : Line) (before middle after : T
       (tally .bytes ∙ ap₂ endLine (stands .oks) (stands .noes))
       ∙ sym (last-line (lengthsOf m) x begun))
 
-continued : {r t : Runner} {m o : Lent} {input said : Text} (final : Text) (x : Running) (begun : Text) → Feeds r m input said t o → Ends t o final → Stands r m x begun
+continued : {r t : Runner} {m o : Lent} {input said : Text} (final : Text) (x : Running) (begun : Text) → Feeds r m input said t o → Ends t o final → StandsFor r m x begun
     → said ++ final ≡ answersTo (lengthsOf m) x (split 10 begun input)
 continued final x begun stop e q = e x begun q
 continued final x begun (next {used = used} chunk rest said {later = later} c run) e q =
@@ -219,7 +219,7 @@ continued final x begun (next {used = used} chunk rest said {later = later} c ru
 
 -- THE TRANSCRIPT: a runner that starts, is fed an input in chunks of any size and ends, says the transcript of the input. Each step is the
 -- promise that the `ensures` of `start`, `feed_all` (or `feed`) and `finish` states. Assumes nothing.
-pub says-transcript : (r t : Runner) (m o : Lent) (input said final : Text) → Stands r m beginning [] → Feeds r m input said t o → Ends t o final
+pub says-transcript : (r t : Runner) (m o : Lent) (input said final : Text) → StandsFor r m beginning [] → Feeds r m input said t o → Ends t o final
     → said ++ final ≡ transcript (lengthsOf m) input
 unfolding transcript
 says-transcript r t m o input said final q f e = continued final beginning [] f e q

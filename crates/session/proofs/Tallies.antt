@@ -20,7 +20,7 @@ more-min n k e = go (ltb n most) refl
     go false d = omega (arith, ltb-false n most d)
 
 -- The tally in code stays beside the transcript's.
-pub record Beside (t : Tally) (x : Running) : Type 0 where
+pub record SameTally (t : Tally) (x : Running) : Type 0 where
   pub oks : t .oks ≡ min most (x .oks)
   pub noes : t .noes ≡ min most (x .noes)
 
@@ -30,24 +30,24 @@ okAfter x o = record { store = o; oks = suc (x .oks); noes = x .noes }
 abbrev noAfter : Running → Store → Running
 noAfter x o = record { store = o; oks = x .oks; noes = suc (x .noes) }
 
-module _ (t : Tally) (x : Running) (a : Answer) (o : Store) (q : Beside t x) where
-  beside-ok : numberIn a ≡ 0 → Beside (tallyAfter t 0) (counted a x o)
+module _ (t : Tally) (x : Running) (a : Answer) (o : Store) (q : SameTally t x) where
+  tally-ok : numberIn a ≡ 0 → SameTally (tallyAfter t 0) (counted a x o)
   unfolding tallyAfter counted
-  beside-ok e =
-      subst (λ (b : Bool). Beside (tallyOf (oneMore (t .oks)) (t .noes)) (cond b (okAfter x o) (noAfter x o))) (sym (eq-eqb (numberIn a) 0 e))
+  tally-ok e =
+      subst (λ (b : Bool). SameTally (tallyOf (oneMore (t .oks)) (t .noes)) (cond b (okAfter x o) (noAfter x o))) (sym (eq-eqb (numberIn a) 0 e))
       (record { oks = more-min (t .oks) (x .oks) (q .oks); noes = q .noes })
 
-  beside-no : (n : ℕ) → numberIn a ≡ suc n → Beside (tallyAfter t (suc n)) (counted a x o)
+  tally-no : (n : ℕ) → numberIn a ≡ suc n → SameTally (tallyAfter t (suc n)) (counted a x o)
   unfolding tallyAfter counted
-  beside-no n e =
-      subst (λ (b : Bool). Beside (cond b (tallyOf (oneMore (t .oks)) (t .noes)) (tallyOf (t .oks) (oneMore (t .noes)))) (cond (eqb (numberIn a) 0) (okAfter x o) (noAfter x o)))
+  tally-no n e =
+      subst (λ (b : Bool). SameTally (cond b (tallyOf (oneMore (t .oks)) (t .noes)) (tallyOf (t .oks) (oneMore (t .noes)))) (cond (eqb (numberIn a) 0) (okAfter x o) (noAfter x o)))
       (sym (ne-eqb (suc n) 0 (λ d. omega arith)))
-      (subst (λ (b : Bool). Beside (tallyOf (t .oks) (oneMore (t .noes))) (cond b (okAfter x o) (noAfter x o))) (sym (ne-eqb (numberIn a) 0 (λ d. omega arith)))
+      (subst (λ (b : Bool). SameTally (tallyOf (t .oks) (oneMore (t .noes))) (cond b (okAfter x o) (noAfter x o))) (sym (ne-eqb (numberIn a) 0 (λ d. omega arith)))
       (record { oks = q .oks; noes = more-min (t .noes) (x .noes) (q .noes) }))
 
-  pub beside-next : (n : ℕ) → numberIn a ≡ n → Beside (tallyAfter t n) (counted a x o)
-  beside-next zero e = beside-ok e
-  beside-next (suc n) e = beside-no n e
+  pub tally-next : (n : ℕ) → numberIn a ≡ n → SameTally (tallyAfter t n) (counted a x o)
+  tally-next zero e = tally-ok e
+  tally-next (suc n) e = tally-no n e
 
 pub counted-store : (a : Answer) (x : Running) (o : Store) → counted a x o .store ≡ o
 unfolding counted

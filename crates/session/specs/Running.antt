@@ -20,7 +20,7 @@ use Rattle.session.specs.declared.Answered.{Answered}
 use Rattle.replies.specs.declared.Line.{Line}
 use Rattle.replies.specs.declared.Shown.{Shown}
 use Rattle.replies.specs.Answers.{answerLine}
-use Rattle.replies.specs.Lines.{answerOf, Says}
+use Rattle.replies.specs.Lines.{answerOf, HoldsText}
 use Rattle.session.specs.Transcript.{Store, Running, resetTo, answerTo, storeAfter, lineText, lineAfter, answersTo}
 
 -- Whether a reset was accepted, after an answer of refusal n or 0. (Before the first accepted reset no other record is.)
@@ -32,11 +32,12 @@ abbrev pub Stored : Bool → Kept → Store → Type 0
 Stored started s none = started ≡ false
 Stored started s (some m) = (started ≡ true) × AnswersAs s m
 
--- Whether a line is a record other than `reset`, before the first accepted reset: 1 and 2 come before 3.
+-- Whether a record is another than `reset`.
 unfoldable pub isOther : Option Settings → Bool
 isOther none = true
 isOther (some asked) = false
 
+-- Whether a line is such a record, before the first accepted reset: 1 and 2 come before 3.
 unfoldable pub early : (started : Bool) → Parsed → Bool
 early true parsed = false
 early false (Refused n) = false
@@ -54,10 +55,10 @@ pub record Replied (r : Runner) (started : Bool) (state : StoreState) (n : ℕ) 
   pub started-is : a .runner .started ≡ started
   pub tally : a .runner .tally ≡ tallyAfter (r .tally) n
   pub reader : Holds (a .runner .reader) []
-  pub line : Says (a .line) (answerLine (answerOf n shown))
+  pub line : HoldsText (a .line) (answerLine (answerOf n shown))
 
 -- The runner in code and its lent memory stand for a runner of the transcript that has read a part of a line.
-pub record Stands (r : Runner) (lent : Lent) (x : Running) (begun : Text) : Type 0 where
+pub record StandsFor (r : Runner) (lent : Lent) (x : Running) (begun : Text) : Type 0 where
   pub reader : Holds (r .reader) begun
   pub oks : r .tally .oks ≡ min most (x .oks)
   pub noes : r .tally .noes ≡ min most (x .noes)
@@ -67,20 +68,20 @@ pub record Stands (r : Runner) (lent : Lent) (x : Running) (begun : Text) : Type
 pub record AnswersLine (r : Runner) (before : Lent) (s : Runner) (after : Lent) (line : Line) : Type 0 where
   pub lengths : lengthsOf after ≡ lengthsOf before
   pub few : line .count ≤ 64
-  pub text : (x : Running) (begun : Text) → Stands r before x begun → take (line .count) (line .bytes) ≡ lineText (lengthsOf before) x begun
-  pub stands : (x : Running) (begun : Text) → Stands r before x begun → Stands s after (lineAfter (lengthsOf before) x begun) []
+  pub text : (x : Running) (begun : Text) → StandsFor r before x begun → take (line .count) (line .bytes) ≡ lineText (lengthsOf before) x begun
+  pub stands : (x : Running) (begun : Text) → StandsFor r before x begun → StandsFor s after (lineAfter (lengthsOf before) x begun) []
 
 -- Some bytes of a chunk taken: what is said to them, and then to what is left of the chunk and whatever follows it, is what the transcript
 -- says to all.
 pub record Continues (r : Runner) (before : Lent) (chunk : Text) (s : Runner) (after : Lent) (said : Text) (used : ℕ) : Type 0 where
   pub lengths : lengthsOf after ≡ lengthsOf before
   pub within : used ≤ length chunk
-  pub goes-on : (x : Running) (begun : Text) → Stands r before x begun
-      → (y : Running) × (left : Text) × Stands s after y left
+  pub goes-on : (x : Running) (begun : Text) → StandsFor r before x begun
+      → (y : Running) × (left : Text) × StandsFor s after y left
       × ((more : Text)
       → answersTo (lengthsOf before) x (split 10 begun (chunk ++ more))
       ≡ said ++ answersTo (lengthsOf before) y (split 10 left (drop used chunk ++ more)))
 
 -- The end of input, within a line that was begun: what is said then ends the transcript.
 abbrev pub Ends : Runner → Lent → (said : Text) → Type 0
-Ends r m said = (x : Running) (begun : Text) → Stands r m x begun → said ≡ answersTo (lengthsOf m) x (split 10 begun [])
+Ends r m said = (x : Running) (begun : Text) → StandsFor r m x begun → said ≡ answersTo (lengthsOf m) x (split 10 begun [])

@@ -40,6 +40,7 @@ pub record Running : Type 0 where
   pub oks : ℕ
   pub noes : ℕ
 
+-- "an empty session prints only that, with 0 and 0".
 unfoldable pub beginning : Running
 beginning = record { store = none; oks = 0; noes = 0 }
 
@@ -52,29 +53,30 @@ counted a x after =
 module _ (lengths : Pieces) where
   -- The refusal of a record that comes before the first accepted reset, or 0. 3: "A session record other than `reset` comes before the first
   -- accepted reset."
-  unfoldable pub firstRefusal : Option Settings → ℕ
-  firstRefusal none = 3
-  firstRefusal (some asked) = askedRefusal lengths asked
+  unfoldable pub unstartedRefusal : Option Settings → ℕ
+  unstartedRefusal none = 3
+  unstartedRefusal (some asked) = askedRefusal lengths asked
 
-  -- The first accepted reset starts the store.
-  unfoldable pub firstStore : Option Settings → Store
-  firstStore none = none
-  firstStore (some asked) = cond (eqb (askedRefusal lengths asked) 0) (some (freshModel asked)) none
+  -- "accepted reset": the first one starts the store.
+  unfoldable pub unstartedStore : Option Settings → Store
+  unstartedStore none = none
+  unstartedStore (some asked) = cond (eqb (askedRefusal lengths asked) 0) (some (freshModel asked)) none
 
   abbrev pub modelRefusal : Model → Call → ℕ
   modelRefusal m c = refusal (plainFacts lengths (m .plain) c) c
 
   -- The answer to a record,
   unfoldable pub answerTo : Store → Record → Answer
-  answerTo none r = outcome (firstRefusal (resetTo r))
+  answerTo none r = outcome (unstartedRefusal (resetTo r))
   answerTo (some m) r = modelAnswer (modelRefusal m (callOf r)) m (callOf r)
 
-  -- and the store after it: a refused reset leaves the old store, or none.
+  -- and the store after it: "A refused call .. changes nothing", so that a refused reset leaves the old store, or none.
   unfoldable pub storeAfter : Store → Record → Store
-  storeAfter none r = firstStore (resetTo r)
+  storeAfter none r = unstartedStore (resetTo r)
   storeAfter (some m) r = some (modelStep (modelRefusal m (callOf r)) m (callOf r))
 
-  -- The answer to a line, refused or a record, and the store after it.
+  -- The answer to a line and the store after it: 1 and 2 come first, then 3 and the call's own. "Each is given if its condition holds and no
+  -- earlier one does, never otherwise."
   unfoldable pub lineAnswer : Store → Parsed → Answer
   lineAnswer store (Refused n) = outcome n
   lineAnswer store (Asks r) = answerTo store r
@@ -92,7 +94,7 @@ module _ (lengths : Pieces) where
   lineAfter x [] = x
   lineAfter x (b ∷ bs) = counted (lineAnswer (x .store) (parsed (b ∷ bs))) x (lineStore (x .store) (parsed (b ∷ bs)))
 
-  -- The answers to lines, with the tally "printed last".
+  -- The answers to lines, with the tally "printed last": a count past the last 64-bit number is printed as that number.
   unfoldable pub answersTo : Running → List Text → Text
   answersTo x [] = endLine (min most (x .oks)) (min most (x .noes))
   answersTo x (line ∷ lines) = lineText x line ++ answersTo (lineAfter x line) lines

@@ -13,7 +13,7 @@ ghost use Prim.Native.Nat.{_≤_, _<_};
 ghost use lib.ListN.{length, take};
 ghost use Rattle.store.specs.Shown.{Lent, lentOf};
 ghost use Rattle.session.specs.Transcript.{resetTo, beginning};
-ghost use Rattle.session.specs.Running.{isOther, early, startedAfter, Replied, Stands, AnswersLine, Continues, Ends};
+ghost use Rattle.session.specs.Running.{isOther, early, startedAfter, Replied, StandsFor, AnswersLine, Continues, Ends};
 
 // The runner between two bytes of its input: the store's state and whether a reset was accepted, the tally, and the line that is being read.
 pub struct Runner {
@@ -37,7 +37,7 @@ pub struct Fed {
 }
 
 // The runner after some bytes of input, how many they were, and how many bytes of output it put.
-pub struct Told {
+pub struct FedAll {
     pub runner: Runner,
     pub used: usize,
     pub filled: usize,
@@ -45,7 +45,7 @@ pub struct Told {
 
 // The runner before its first line.
 pub fn start() -> Runner
-    ensures { λ r. ⌜ ((lent : Lent) → Stands r lent beginning []) ⌝ }
+    ensures { λ r. ⌜ ((lent : Lent) → StandsFor r lent beginning []) ⌝ }
 {
     let state = store::blank();
     let tally = Tally { oks: 0, noes: 0 };
@@ -139,7 +139,7 @@ fn answer(
 {
     let reader = runner.reader;
     if reader.count == 0 {
-        let line = replies::silence();
+        let line = replies::no_text();
         return Answered { runner, line };
     }
     let state = runner.state;
@@ -205,7 +205,7 @@ pub fn feed(
         reader,
     };
     if chunk.len() <= used {
-        let line = replies::silence();
+        let line = replies::no_text();
         return Fed {
             runner: next,
             line,
@@ -233,7 +233,7 @@ pub fn feed_all(
     history: &mut [u16],
     chunk: &[u8],
     out: &mut [u8],
-) -> Told
+) -> FedAll
     ensures { λ r. ⌜ Continues runner
         (lentOf (now (archive .entry)) (now (pool .entry)) (now (groups .entry)) (now (table .entry)) (now (owners .entry)) (now (history .entry)))
         (now (chunk .entry))
@@ -249,7 +249,7 @@ pub fn feed_all(
     let mut filled = 0;
     while used < count {
         if room - filled < 64 {
-            return Told {
+            return FedAll {
                 runner: current,
                 used,
                 filled,
@@ -270,14 +270,15 @@ pub fn feed_all(
         let line = fed.line;
         filled = replies::put_line(out, filled, line);
     }
-    Told {
+    FedAll {
         runner: current,
         used,
         filled,
     }
 }
 
-// The end of input: puts the answer to a last line without its line feed, and the tally. An output of less than 128 bytes is left alone.
+// The end of input: puts the answer to a last line without its line feed, and the tally. With an output of less than 128 bytes nothing is
+// done.
 pub fn finish(
     runner: Runner,
     archive: &mut [u8],
@@ -291,7 +292,10 @@ pub fn finish(
     ensures { λ r. ⌜ (r ≤ length (now (out .exit)))
         × (128 ≤ length (now (out .entry)) → Ends runner
         (lentOf (now (archive .entry)) (now (pool .entry)) (now (groups .entry)) (now (table .entry)) (now (owners .entry)) (now (history .entry)))
-        (take r (now (out .exit)))) ⌝ }
+        (take r (now (out .exit))))
+        × (length (now (out .entry)) < 128 → (r ≡ 0) × (now (out .exit) ≡ now (out .entry))
+        × (lentOf (now (archive .exit)) (now (pool .exit)) (now (groups .exit)) (now (table .exit)) (now (owners .exit)) (now (history .exit))
+        ≡ lentOf (now (archive .entry)) (now (pool .entry)) (now (groups .entry)) (now (table .entry)) (now (owners .entry)) (now (history .entry)))) ⌝ }
 {
     if out.len() < 128 {
         return 0;

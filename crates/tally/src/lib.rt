@@ -9,21 +9,21 @@ pub struct Tally {
 }
 
 // Adds an answer in place: 1 and 0 for an `ok`, 0 and 1 for a `no`, and 0 for a count that stands at its last number.
-fn add_answer(tally: &mut Tally, first: u64, second: u64)
-    requires { ⌜ Room (now tally) first second ⌝ }
-    ensures { λ _. ⌜ now (tally .exit) ≡ plus (now (tally .entry)) first second ⌝ }
+fn add_answer(tally: &mut Tally, oks: u64, noes: u64)
+    requires { ⌜ Room (now tally) oks noes ⌝ }
+    ensures { λ _. ⌜ now (tally .exit) ≡ plus (now (tally .entry)) oks noes ⌝ }
 {
-    tally.oks = tally.oks + first;
-    tally.noes = tally.noes + second;
+    tally.oks = tally.oks + oks;
+    tally.noes = tally.noes + noes;
 }
 
 // The tally with an answer added.
-fn added(tally: Tally, first: u64, second: u64) -> Tally
-    requires { ⌜ Room tally first second ⌝ }
-    ensures { λ r. ⌜ r ≡ plus tally first second ⌝ }
+fn added(tally: Tally, oks: u64, noes: u64) -> Tally
+    requires { ⌜ Room tally oks noes ⌝ }
+    ensures { λ r. ⌜ r ≡ plus tally oks noes ⌝ }
 {
     let mut next = tally;
-    add_answer(&mut next, first, second);
+    add_answer(&mut next, oks, noes);
     next
 }
 

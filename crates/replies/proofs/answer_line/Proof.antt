@@ -1,6 +1,6 @@
 -- `replies::answer_line` meets its contract. Assumes nothing.
 use borrow.Author.Needs.{needs}
-use Rattle.replies.proofs.Lines.{answer-few, says}
+use Rattle.replies.proofs.Lines.{answer-few, holds-text}
 use Rattle.replies.proofs.answer_line.Statement.{statement}
 use Rattle.replies.proofs.answer_line.Tie as tie
 
@@ -11,7 +11,7 @@ put-answer-requires : tie.Need-put-answer-requires
 put-answer-requires c κs = search needs
 
 returns : tie.Need-returns
-returns c = says (c .before .put-answer .ensures) (answer-few _)
+returns c = holds-text (c .before .put-answer .ensures) (answer-few _)
 
 pub answer-line-spec : {M : Type 1} → statement M
 answer-line-spec = tie.close (tie.spec slice-aggregate-put-answer put-answer-requires returns)

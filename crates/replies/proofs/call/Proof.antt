@@ -12,8 +12,8 @@ enum-known-asked c = search needs
 reset-requires : tie.Need-reset-requires
 reset-requires c κs = search needs
 
-plain-requires : tie.Need-plain-requires
-plain-requires c κs = search needs
+outcome-reply-requires : tie.Need-outcome-reply-requires
+outcome-reply-requires c κs = search needs
 
 enum-known-asked-2 : tie.Need-enum-known-asked-2
 enum-known-asked-2 c = search needs
@@ -27,8 +27,8 @@ enum-known-asked-3 c = search needs
 write-requires : tie.Need-write-requires
 write-requires c κs = search needs
 
-plain-requires-2 : tie.Need-plain-requires-2
-plain-requires-2 c κs = search needs
+outcome-reply-requires-2 : tie.Need-outcome-reply-requires-2
+outcome-reply-requires-2 c κs = search needs
 
 enum-told : tie.Need-enum-told
 enum-told c = search needs
@@ -36,8 +36,8 @@ enum-told c = search needs
 mark-requires : tie.Need-mark-requires
 mark-requires c κs = search needs
 
-plain-requires-3 : tie.Need-plain-requires-3
-plain-requires-3 c κs = search needs
+outcome-reply-requires-3 : tie.Need-outcome-reply-requires-3
+outcome-reply-requires-3 c κs = search needs
 
 enum-known-asked-4 : tie.Need-enum-known-asked-4
 enum-known-asked-4 c = search needs
@@ -45,8 +45,8 @@ enum-known-asked-4 c = search needs
 rollback-requires : tie.Need-rollback-requires
 rollback-requires c κs = search needs
 
-plain-requires-4 : tie.Need-plain-requires-4
-plain-requires-4 c κs = search needs
+outcome-reply-requires-4 : tie.Need-outcome-reply-requires-4
+outcome-reply-requires-4 c κs = search needs
 
 enum-known-asked-5 : tie.Need-enum-known-asked-5
 enum-known-asked-5 c = search needs
@@ -54,8 +54,8 @@ enum-known-asked-5 c = search needs
 advance-requires : tie.Need-advance-requires
 advance-requires c κs = search needs
 
-plain-requires-5 : tie.Need-plain-requires-5
-plain-requires-5 c κs = search needs
+outcome-reply-requires-5 : tie.Need-outcome-reply-requires-5
+outcome-reply-requires-5 c κs = search needs
 
 enum-told-2 : tie.Need-enum-told-2
 enum-told-2 c = search needs
@@ -83,7 +83,7 @@ same-length-6 c = search needs
 
 returns : tie.Need-returns
 unfolding callOf answerOf
-returns c = promised-plain _ _ _ _ _ _ _ _ (c .before .before .before .before .before .before .before .before .before .before .before .before .before .before .before .asked .given .1) (c .plain .ensures .0) (c .plain .ensures .1) (c .before .before .before .before .before .before .before .reset .ensures .0)
+returns c = promised-plain _ _ _ _ _ _ _ _ (c .before .before .before .before .before .before .before .before .before .before .before .before .before .before .before .asked .given .1) (c .outcome-reply .ensures .0) (c .outcome-reply .ensures .1) (c .before .before .before .before .before .before .before .reset .ensures .0)
 
 same-length-7 : tie.Need-same-length-7
 same-length-7 c = search needs
@@ -127,7 +127,7 @@ same-length-18 c = search needs
 
 returns-3 : tie.Need-returns-3
 unfolding callOf answerOf
-returns-3 c = promised-plain _ _ _ _ _ _ _ _ (c .before .before .before .before .before .before .before .before .before .before .before .before .before .before .before .before .before .asked3 .given .1) (c .plain2 .ensures .0) (c .plain2 .ensures .1) (c .before .before .before .before .before .before .before .before .before .write .ensures .0)
+returns-3 c = promised-plain _ _ _ _ _ _ _ _ (c .before .before .before .before .before .before .before .before .before .before .before .before .before .before .before .before .before .asked3 .given .1) (c .outcome-reply2 .ensures .0) (c .outcome-reply2 .ensures .1) (c .before .before .before .before .before .before .before .before .before .write .ensures .0)
 
 same-length-19 : tie.Need-same-length-19
 same-length-19 c = search needs
@@ -149,7 +149,7 @@ same-length-24 c = search needs
 
 returns-4 : tie.Need-returns-4
 unfolding callOf answerOf
-returns-4 c = promised-plain _ _ _ _ _ _ _ _ (c .before .before .before .before .before .before .before .before .enum-told .given .1) (c .plain3 .ensures .0) (c .plain3 .ensures .1) (c .before .mark .ensures .0)
+returns-4 c = promised-plain _ _ _ _ _ _ _ _ (c .before .before .before .before .before .before .before .before .enum-told .given .1) (c .outcome-reply3 .ensures .0) (c .outcome-reply3 .ensures .1) (c .before .mark .ensures .0)
 
 same-length-25 : tie.Need-same-length-25
 same-length-25 c = search needs
@@ -171,7 +171,7 @@ same-length-30 c = search needs
 
 returns-5 : tie.Need-returns-5
 unfolding callOf answerOf
-returns-5 c = promised-plain _ _ _ _ _ _ _ _ (c .before .before .before .before .before .before .before .before .before .before .before .before .before .asked4 .given .1) (c .plain4 .ensures .0) (c .plain4 .ensures .1) (c .before .before .before .before .before .rollback .ensures .0)
+returns-5 c = promised-plain _ _ _ _ _ _ _ _ (c .before .before .before .before .before .before .before .before .before .before .before .before .before .asked4 .given .1) (c .outcome-reply4 .ensures .0) (c .outcome-reply4 .ensures .1) (c .before .before .before .before .before .rollback .ensures .0)
 
 same-length-31 : tie.Need-same-length-31
 same-length-31 c = search needs
@@ -193,7 +193,7 @@ same-length-36 c = search needs
 
 returns-6 : tie.Need-returns-6
 unfolding callOf answerOf
-returns-6 c = promised-plain _ _ _ _ _ _ _ _ (c .before .before .before .before .before .before .before .before .before .before .before .before .before .before .before .asked5 .given .1) (c .plain5 .ensures .0) (c .plain5 .ensures .1) (c .before .before .before .before .before .before .before .advance .ensures .0)
+returns-6 c = promised-plain _ _ _ _ _ _ _ _ (c .before .before .before .before .before .before .before .before .before .before .before .before .before .before .before .asked5 .given .1) (c .outcome-reply5 .ensures .0) (c .outcome-reply5 .ensures .1) (c .before .before .before .before .before .before .before .advance .ensures .0)
 
 same-length-37 : tie.Need-same-length-37
 same-length-37 c = search needs
@@ -223,21 +223,21 @@ call-spec =
     (tie.spec
     enum-known-asked
     reset-requires
-    plain-requires
+    outcome-reply-requires
     enum-known-asked-2
     read-requires
     enum-known-asked-3
     write-requires
-    plain-requires-2
+    outcome-reply-requires-2
     enum-told
     mark-requires
-    plain-requires-3
+    outcome-reply-requires-3
     enum-known-asked-4
     rollback-requires
-    plain-requires-4
+    outcome-reply-requires-4
     enum-known-asked-5
     advance-requires
-    plain-requires-5
+    outcome-reply-requires-5
     enum-told-2
     counts-requires
     same-length

@@ -21,7 +21,7 @@ loop-holds : tie.Need-loop-holds Inv-loop μ-loop
 loop-holds c = record { archive = refl; pool = refl; groups = refl; table = refl; owners = refl; history = refl; out = refl }
 
 read-some-requires : tie.Need-read-some-requires Inv-loop μ-loop
-read-some-requires c κs = omega (arith, c .before .before .before .before .before .before .before .before .loop .inv .out, c .before .before .before .before .before .before .before .before .before .before .before .before .before .before .before .before .before .pre)
+read-some-requires c κs = omega (arith, c .before .before .before .before .before .before .before .before .loop .inv .out, c .before .before .before .before .before .before .before .before .before .before .before .before .before .before .before .before .before .pre .0)
 
 same-length : tie.Need-same-length Inv-loop μ-loop
 same-length c = c .before .before .before .before .before .before .before .before .before .before .before .before .before .before .before .before .archive .given ∙ c .before .before .before .before .before .before .before .before .before .before .before .before .before .before .before .before .before .before .before .before .before .before .before .before .before .before .loop .inv .archive

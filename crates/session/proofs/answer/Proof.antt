@@ -5,11 +5,11 @@ use Rattle.session.proofs.Answering.{answers-nothing, line-answered, fi
 use Rattle.session.proofs.answer.Statement.{statement}
 use Rattle.session.proofs.answer.Tie as tie
 
-silence-requires : tie.Need-silence-requires
-silence-requires c κs = search needs
+no-text-requires : tie.Need-no-text-requires
+no-text-requires c κs = search needs
 
 returns : tie.Need-returns
-returns c = answers-nothing _ _ _ (c .before .if1 .taken) (c .silence .ensures)
+returns c = answers-nothing _ _ _ (c .before .if1 .taken) (c .no-text .ensures)
 
 parse-requires : tie.Need-parse-requires
 parse-requires c κs = search needs
@@ -69,7 +69,7 @@ pub answer-spec : {M : Type 1} → statement M
 answer-spec =
     tie.close
     (tie.spec
-    silence-requires
+    no-text-requires
     returns
     parse-requires
     is-early-requires

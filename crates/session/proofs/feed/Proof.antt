@@ -8,13 +8,13 @@ use Rattle.session.proofs.feed.Tie as tie
 take-line-requires : tie.Need-take-line-requires
 take-line-requires c κs = search needs
 
-silence-requires : tie.Need-silence-requires
-silence-requires c κs = search needs
+no-text-requires : tie.Need-no-text-requires
+no-text-requires c κs = search needs
 
 returns : tie.Need-returns
 returns c = (
-  continues-within _ _ _ _ _ (c .before .before .before .before .before .take-line .ensures .0) (c .before .before .before .before .before .take-line .ensures .1) _ (c .before .if1 .taken) (c .silence .ensures),
-  (c .silence .ensures .few, λ h. omega (arith, h, c .before .if1 .taken)),
+  continues-within _ _ _ _ _ (c .before .before .before .before .before .take-line .ensures .0) (c .before .before .before .before .before .take-line .ensures .1) _ (c .before .if1 .taken) (c .no-text .ensures),
+  (c .no-text .ensures .few, λ h. omega (arith, h, c .before .if1 .taken)),
 )
 
 answer-requires : tie.Need-answer-requires
@@ -52,7 +52,7 @@ feed-spec =
     tie.close
     (tie.spec
     take-line-requires
-    silence-requires
+    no-text-requires
     returns
     answer-requires
     add-t20

@@ -1,12 +1,13 @@
 -- `session::finish` meets its contract. Assumes nothing.
 use borrow.Author.Needs.{needs}
 use native.Mathlib.Omega.{arith}
+use mathlib.Core.Path.{refl}
 use Rattle.session.proofs.Streaming.{finish-room, finish-few, finish-ends}
 use Rattle.session.proofs.finish.Statement.{statement}
 use Rattle.session.proofs.finish.Tie as tie
 
 returns : tie.Need-returns
-returns c = (omega arith, λ h. absurd (omega (arith, h, c .if1 .taken)))
+returns c = (omega arith, λ h. absurd (omega (arith, h, c .if1 .taken)), λ h. (refl, refl, refl))
 
 answer-requires : tie.Need-answer-requires
 answer-requires c κs = search needs
@@ -42,7 +43,7 @@ same-length-7 : tie.Need-same-length-7
 same-length-7 c = search needs
 
 returns-2 : tie.Need-returns-2
-returns-2 c = (finish-few _ _ _ _ _ _ _ _ _ _ _ (c .before .before .before .before .before .before .before .before .before .before .before .before .before .before .before .before .before .before .before .before .before .before .before .before .answer .ensures) (c .before .before .before .before .end-line .ensures) (c .before .before .before .before .before .before .before .before .put-line .ensures) (c .before .before .put-line2 .ensures) (c .before .before .before .before .before .before .before .before .before .before .before .before .before .before .before .before .before .before .before .before .before .before .before .before .before .before .before .before .before .before .before .if1 .left), λ h. finish-ends _ _ _ _ _ _ _ _ _ _ _ (c .before .before .before .before .before .before .before .before .before .before .before .before .before .before .before .before .before .before .before .before .before .before .before .before .answer .ensures) (c .before .before .before .before .end-line .ensures) (c .before .before .before .before .before .before .before .before .put-line .ensures) (c .before .before .put-line2 .ensures) h)
+returns-2 c = (finish-few _ _ _ _ _ _ _ _ _ _ _ (c .before .before .before .before .before .before .before .before .before .before .before .before .before .before .before .before .before .before .before .before .before .before .before .before .answer .ensures) (c .before .before .before .before .end-line .ensures) (c .before .before .before .before .before .before .before .before .put-line .ensures) (c .before .before .put-line2 .ensures) (c .before .before .before .before .before .before .before .before .before .before .before .before .before .before .before .before .before .before .before .before .before .before .before .before .before .before .before .before .before .before .before .if1 .left), λ h. finish-ends _ _ _ _ _ _ _ _ _ _ _ (c .before .before .before .before .before .before .before .before .before .before .before .before .before .before .before .before .before .before .before .before .before .before .before .before .answer .ensures) (c .before .before .before .before .end-line .ensures) (c .before .before .before .before .before .before .before .before .put-line .ensures) (c .before .before .put-line2 .ensures) h, λ h. absurd (omega (arith, h, c .before .before .before .before .before .before .before .before .before .before .before .before .before .before .before .before .before .before .before .before .before .before .before .before .before .before .before .before .before .before .before .if1 .left)))
 
 pub finish-spec : {M : Type 1} → statement M
 finish-spec =

@@ -103,7 +103,7 @@ module _ (lengths : Pieces) where
   unfoldable pub transcript : Text → Text
   transcript input = answersTo beginning (linesOf input)
 
--- "It answers 6 exactly for otherwise good settings with L above 512 or P above 256": the lengths that the runner lends. (proofs/Lent.antt has
--- the proof of the sentence.)
+-- "It answers 6 exactly for otherwise good settings with L above 512 or P above 256": the lengths that the runner lends. (proofs/Lent.antt
+-- proves the sentence of a reset.)
 unfoldable pub runnerLent : Pieces
 runnerLent = elements (settingsOf 512 256 256)

@@ -10,6 +10,7 @@ ghost use Rattle.cache.specs.Steps.{emptied, placed, isBelow, flagAfter,
 ghost use Rattle.cache.specs.Shown.{shown, Forgets};
 
 // The entry of a set's way is 2 * set + way.
+#[repr(C)]
 pub struct Cache {
     // the line that the entry holds
     pub lines: [u32; 32],

@@ -28,10 +28,10 @@ archiveLine archive line = lineAt archive (16 * line)
 abbrev pub withArchiveLine : (archive : List ℕ) (line : ℕ) → Line → List ℕ
 withArchiveLine archive line x = pasteLine archive (16 * line) x
 
--- What is asked of a slot and the length of a part: "pages of 128 bytes".
+-- What is asked of a slot and the length of a part: the page's line lies in it.
 pub record AsksSlot (slot long : ℕ) : Type 0 where
   pub slot-below : slot < 8
-  pub room : 128 ≤ long
+  pub room : 16 * slot + 16 ≤ long
 
 -- What is asked of a page and the length of the pool: "P is 1 to 4,096".
 pub record AsksPage (page slot long : ℕ) : Type 0 where

@@ -5,6 +5,7 @@ ghost use Rattle.rules.specs.Settings.{Settings, within};
 ghost use Rattle.rules.specs.Sizing.{settingsOf, sizing};
 
 // How many bytes of each piece of lent memory a store needs. Where refusal is not 0, every size is 0.
+#[repr(C)]
 pub struct Need {
     pub refusal: u32,
     pub archive: usize,

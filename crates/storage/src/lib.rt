@@ -11,6 +11,7 @@ ghost use Rattle.storage.specs.Storage.{settingsIn, liveIn, memoryOf, le
 ghost use Rattle.storage.specs.Admit.{piecesOf, inElements, covers, admitted};
 
 // The state goes in by value and comes back by value. It may hold anything: each call tests it first.
+#[repr(C)]
 pub struct State {
     pub lines: u32,
     pub frames: u32,

@@ -7,18 +7,18 @@ pub use storage::State;
 pub use versions::Origin;
 use versions::Spot;
 ghost use mathlib.Core.Path.{_≡_};
-ghost use Prim.Native.Nat.{_/_};
-ghost use Rattle.rules.specs.Sizing.{settingsOf};
-ghost use Rattle.rules.specs.Call.Answer.{outcome, reading, lending, counting, verdict};
-ghost use Rattle.rules.specs.Call.Call.{RESET, WRITE, READ, LINE, LINE-REFUSAL, MARK, ROLLBACK, ADVANCE, COUNTS, CHECK};
+ghost use Rattle.rules.specs.Call.Answer.{outcome, lending, counting, verdict};
+ghost use Rattle.rules.specs.Call.Call.{LINE, LINE-REFUSAL, COUNTS, CHECK};
 ghost use Rattle.rules.specs.Promise.{Promise};
 ghost use Rattle.wellformed.specs.Decision.{Decides};
 ghost use Rattle.storage.specs.Storage.{settingsIn, memoryOf, lengthsIn, storageOf, WellStore, store};
 ghost use Rattle.storage.specs.Admit.{admitted};
-ghost use Rattle.versions.specs.Newest.{originOf};
-ghost use Rattle.storage.specs.Steps.{freshState, stateWith, markedState, ResetTo, RolledTo, AdvancedTo, ReadTo, WroteTo, Put, AsksWrite};
+ghost use Rattle.storage.specs.Steps.{freshState, stateWith, Put, AsksWrite};
+ghost use Rattle.store.specs.Shown.{shownOrigin};
+ghost use Rattle.store.specs.Contracts.{Resets, Writes, Reads, Marks, RollsBack, Advances};
 
 // The state after a call, and its refusal or 0.
+#[repr(C)]
 pub struct Outcome {
     pub state: State,
     pub refusal: u32,
@@ -33,6 +33,7 @@ pub struct Reading {
 }
 
 // The live frames and the pages needed, with the refusal or 0.
+#[repr(C)]
 pub struct Counted {
     pub refusal: u32,
     pub live: u32,
@@ -97,11 +98,10 @@ pub fn reset(
     frames: u32,
     pages: u32,
 ) -> Outcome
-    ensures { λ r. ⌜ (Promise store (RESET (settingsOf lines frames pages))
+    ensures { λ r. ⌜ Resets
         (storageOf state (now (archive .entry)) (now (pool .entry)) (now (groups .entry)) (now (table .entry)) (now (owners .entry)) (now (history .entry)))
-        (outcome (r .refusal))
-        (storageOf (r .state) (now (archive .exit)) (now (pool .entry)) (now (groups .exit)) (now (table .entry)) (now (owners .entry)) (now (history .exit))))
-        × (r .refusal ≡ 0 → ResetTo lines frames pages (now (archive .entry)) (now (groups .entry)) (now (history .entry)) (r .state) (now (archive .exit)) (now (groups .exit)) (now (history .exit))) ⌝ }
+        lines frames pages (r .refusal)
+        (storageOf (r .state) (now (archive .exit)) (now (pool .entry)) (now (groups .exit)) (now (table .entry)) (now (owners .entry)) (now (history .exit))) ⌝ }
 {
     let lengths = storage::measure(archive, pool, groups, table, owners, history);
     let refusal = storage::asked_refusal(lines, frames, pages, lengths);
@@ -187,13 +187,10 @@ pub fn write(
     address: u32,
     value: u32,
 ) -> Outcome
-    ensures { λ r. ⌜ (Promise store (WRITE width address value)
+    ensures { λ r. ⌜ Writes
         (storageOf state (now (archive .entry)) (now (pool .entry)) (now (groups .entry)) (now (table .entry)) (now (owners .entry)) (now (history .entry)))
-        (outcome (r .refusal))
-        (storageOf (r .state) (now (archive .entry)) (now (pool .exit)) (now (groups .exit)) (now (table .exit)) (now (owners .exit)) (now (history .entry))))
-        × (r .refusal ≡ 0 → WellStore (storageOf state (now (archive .entry)) (now (pool .entry)) (now (groups .entry)) (now (table .entry)) (now (owners .entry)) (now (history .entry)))
-        → WroteTo (storageOf state (now (archive .entry)) (now (pool .entry)) (now (groups .entry)) (now (table .entry)) (now (owners .entry)) (now (history .entry))) width address value
-        (storageOf (r .state) (now (archive .entry)) (now (pool .exit)) (now (groups .exit)) (now (table .exit)) (now (owners .exit)) (now (history .entry)))) ⌝ }
+        width address value (r .refusal)
+        (storageOf (r .state) (now (archive .entry)) (now (pool .exit)) (now (groups .exit)) (now (table .exit)) (now (owners .exit)) (now (history .entry))) ⌝ }
 {
     let lengths = storage::measure(archive, pool, groups, table, owners, history);
     let refusal = storage::admit_write(state, lengths, width, address, value);
@@ -247,11 +244,10 @@ pub fn read(
     width: u32,
     address: u32,
 ) -> Reading
-    ensures { λ r. ⌜ (Promise store (READ width address)
+    ensures { λ r. ⌜ Reads
         (storageOf state (now (archive .entry)) (now (pool .entry)) (now (groups .entry)) (now (table .entry)) (now (owners .entry)) (now (history .entry)))
-        (reading (r .refusal) (r .value) (originOf (r .origin)))
-        (storageOf (r .state) (now (archive .entry)) (now (pool .entry)) (now (groups .entry)) (now (table .entry)) (now (owners .entry)) (now (history .entry))))
-        × (r .refusal ≡ 0 → ReadTo (storageOf state (now (archive .entry)) (now (pool .entry)) (now (groups .entry)) (now (table .entry)) (now (owners .entry)) (now (history .entry))) (address / 16) (r .state)) ⌝ }
+        width address (r .refusal) (r .value) (shownOrigin (r .origin))
+        (storageOf (r .state) (now (archive .entry)) (now (pool .entry)) (now (groups .entry)) (now (table .entry)) (now (owners .entry)) (now (history .entry))) ⌝ }
 {
     let lengths = storage::measure(archive, pool, groups, table, owners, history);
     let refusal = storage::admit_place(state, lengths, width, address);
@@ -372,11 +368,10 @@ pub fn mark(
     owners: &[u32],
     history: &[u16],
 ) -> Outcome
-    ensures { λ r. ⌜ (Promise store MARK
+    ensures { λ r. ⌜ Marks
         (storageOf state (now (archive .entry)) (now (pool .entry)) (now (groups .entry)) (now (table .entry)) (now (owners .entry)) (now (history .entry)))
-        (outcome (r .refusal))
-        (storageOf (r .state) (now (archive .entry)) (now (pool .entry)) (now (groups .entry)) (now (table .entry)) (now (owners .entry)) (now (history .entry))))
-        × (r .refusal ≡ 0 → r .state ≡ markedState state) ⌝ }
+        (r .refusal)
+        (storageOf (r .state) (now (archive .entry)) (now (pool .entry)) (now (groups .entry)) (now (table .entry)) (now (owners .entry)) (now (history .entry))) ⌝ }
 {
     let lengths = storage::measure(archive, pool, groups, table, owners, history);
     let refusal = storage::admit_mark(state, lengths);
@@ -403,11 +398,10 @@ pub fn rollback(
     history: &mut [u16],
     k: u32,
 ) -> Outcome
-    ensures { λ r. ⌜ (Promise store (ROLLBACK k)
+    ensures { λ r. ⌜ RollsBack
         (storageOf state (now (archive .entry)) (now (pool .entry)) (now (groups .entry)) (now (table .entry)) (now (owners .entry)) (now (history .entry)))
-        (outcome (r .refusal))
-        (storageOf (r .state) (now (archive .entry)) (now (pool .entry)) (now (groups .exit)) (now (table .entry)) (now (owners .entry)) (now (history .exit))))
-        × (r .refusal ≡ 0 → RolledTo state (now (groups .entry)) (now (history .entry)) k (r .state) (now (groups .exit)) (now (history .exit))) ⌝ }
+        k (r .refusal)
+        (storageOf (r .state) (now (archive .entry)) (now (pool .entry)) (now (groups .exit)) (now (table .entry)) (now (owners .entry)) (now (history .exit))) ⌝ }
 {
     let lengths = storage::measure(archive, pool, groups, table, owners, history);
     let refusal = storage::admit_frames(state, lengths, k);
@@ -444,11 +438,10 @@ pub fn advance(
     history: &mut [u16],
     k: u32,
 ) -> Outcome
-    ensures { λ r. ⌜ (Promise store (ADVANCE k)
+    ensures { λ r. ⌜ Advances
         (storageOf state (now (archive .entry)) (now (pool .entry)) (now (groups .entry)) (now (table .entry)) (now (owners .entry)) (now (history .entry)))
-        (outcome (r .refusal))
-        (storageOf (r .state) (now (archive .exit)) (now (pool .entry)) (now (groups .exit)) (now (table .entry)) (now (owners .entry)) (now (history .exit))))
-        × (r .refusal ≡ 0 → AdvancedTo state (now (archive .entry)) (now (pool .entry)) (now (groups .entry)) (now (table .entry)) (now (history .entry)) k (r .state) (now (archive .exit)) (now (groups .exit)) (now (history .exit))) ⌝ }
+        k (r .refusal)
+        (storageOf (r .state) (now (archive .exit)) (now (pool .entry)) (now (groups .exit)) (now (table .entry)) (now (owners .entry)) (now (history .exit))) ⌝ }
 {
     let lengths = storage::measure(archive, pool, groups, table, owners, history);
     let refusal = storage::admit_frames(state, lengths, k);

@@ -1,0 +1,32 @@
+-- `vcm::marks_back` meets its contract. Assumes nothing.
+use mathlib.Core.Path.{refl}
+use borrow.Author.Needs.{needs}
+use Rattle.versions.specs.Newest.{originOf}
+use Rattle.vcm.specs.Numbers.{marksBack}
+use Rattle.vcm.proofs.marks_back.Statement.{statement}
+use Rattle.vcm.proofs.marks_back.Tie as tie
+
+enum-told : tie.Need-enum-told
+enum-told c = search needs
+
+enum-known-found : tie.Need-enum-known-found
+enum-known-found c = search needs
+
+enum-told-2 : tie.Need-enum-told-2
+enum-told-2 c = search needs
+
+returns : tie.Need-returns
+unfolding marksBack originOf
+returns c = rw (c .enum-told .given .1) refl
+
+returns-2 : tie.Need-returns-2
+unfolding marksBack originOf
+returns-2 c = rw (c .before .found .given .1) refl
+
+returns-3 : tie.Need-returns-3
+unfolding marksBack originOf
+returns-3 c = rw (c .enum-told2 .given .1) refl
+
+pub marks-back-spec : {M : Type 1} → statement M
+marks-back-spec =
+    tie.close (tie.spec enum-told enum-known-found enum-told-2 returns returns-2 returns-3)

@@ -1,0 +1,32 @@
+-- `vcm::origin_number` meets its contract. Assumes nothing.
+use mathlib.Core.Path.{refl}
+use borrow.Author.Needs.{needs}
+use Rattle.versions.specs.Newest.{originOf}
+use Rattle.vcm.specs.Numbers.{originNumber}
+use Rattle.vcm.proofs.origin_number.Statement.{statement}
+use Rattle.vcm.proofs.origin_number.Tie as tie
+
+enum-told : tie.Need-enum-told
+enum-told c = search needs
+
+enum-known-found : tie.Need-enum-known-found
+enum-known-found c = search needs
+
+enum-told-2 : tie.Need-enum-told-2
+enum-told-2 c = search needs
+
+returns : tie.Need-returns
+unfolding originNumber originOf
+returns c = rw (c .enum-told .given .1) refl
+
+returns-2 : tie.Need-returns-2
+unfolding originNumber originOf
+returns-2 c = rw (c .before .found .given .1) refl
+
+returns-3 : tie.Need-returns-3
+unfolding originNumber originOf
+returns-3 c = rw (c .enum-told2 .given .1) refl
+
+pub origin-number-spec : {M : Type 1} → statement M
+origin-number-spec =
+    tie.close (tie.spec enum-told enum-known-found enum-told-2 returns returns-2 returns-3)

@@ -1,0 +1,345 @@
+// The store's calls exported to C and Rust: the static library of this crate defines each under its plain name, and include/vcm.h
+// declares them. State and results cross by value, a lent piece as its address and its count of elements. No struct that crosses
+// has a bool or an enum, so that every byte that a caller may hand over is a value.
+use store::Counted;
+use store::Need;
+use store::Origin;
+use store::Outcome;
+use store::State;
+ghost use mathlib.Core.Path.{_≡_};
+ghost use Rattle.rules.specs.Sizing.{settingsOf, sizing};
+ghost use Rattle.rules.specs.Call.Answer.{outcome, counting};
+ghost use Rattle.rules.specs.Call.Call.{LINE-REFUSAL, COUNTS};
+ghost use Rattle.storage.specs.Storage.{storageOf};
+ghost use Rattle.storage.specs.Steps.{freshState};
+ghost use Rattle.store.specs.Shown.{Promises, shownOrigin};
+ghost use Rattle.store.specs.Contracts.{Resets, Writes, Marks, RollsBack, Advances};
+ghost use Rattle.vcm.specs.Numbers.{originNumber, marksBack, ReadsAs, copied, CopiesLine, ChecksAs};
+
+// An origin as a number. Marks back are 0 but for a frame's.
+pub const ARCHIVE: u32 = 0;
+
+pub const FRAME: u32 = 1;
+
+pub const CACHE: u32 = 2;
+
+// The value of a read and its origin, with the refusal or 0.
+#[repr(C)]
+pub struct Reading {
+    pub state: State,
+    pub refusal: u32,
+    pub value: u32,
+    pub origin: u32,
+    pub marks_back: u32,
+}
+
+// CHECK's answer, 1 for yes, with the refusal or 0.
+#[repr(C)]
+pub struct Verdict {
+    pub refusal: u32,
+    pub yes: u32,
+}
+
+// The need of each piece of lent memory in bytes.
+#[no_mangle]
+pub extern "C" fn vcm_sizes(lines: u32, frames: u32, pages: u32) -> Need
+    ensures { λ r. ⌜ r ≡ sizing (settingsOf lines frames pages) ⌝ }
+{
+    store::sizes(lines, frames, pages)
+}
+
+// The blank state, which holds no store.
+#[no_mangle]
+pub extern "C" fn vcm_blank() -> State
+    ensures { λ r. ⌜ r ≡ freshState 0 0 0 ⌝ }
+{
+    store::blank()
+}
+
+// The number of an origin.
+fn origin_number(found: Origin) -> u32
+    ensures { λ r. ⌜ r ≡ originNumber (shownOrigin found) ⌝ }
+{
+    match found {
+        Origin::Cache => CACHE,
+        Origin::Frame(back) => FRAME,
+        Origin::Archive => ARCHIVE,
+    }
+}
+
+// The marks back of an origin.
+fn marks_back(found: Origin) -> u32
+    ensures { λ r. ⌜ r ≡ marksBack (shownOrigin found) ⌝ }
+{
+    match found {
+        Origin::Cache => 0,
+        Origin::Frame(back) => back,
+        Origin::Archive => 0,
+    }
+}
+
+// Copies a lent line over the caller's bytes, which stay where the part has not 16.
+fn copy_line(part: &[u8], bytes: &mut [u8; 16])
+    ensures { λ _. ⌜ now (bytes .exit) ≡ copied (now (part .entry)) (now (bytes .entry)) ⌝ }
+{
+    if part.len() != 16 {
+        return;
+    }
+    let line = pages::lines::read_line(part, 0);
+    *bytes = line;
+}
+
+// RESET: writes archive, groups and history.
+#[no_mangle]
+pub extern "C" fn vcm_reset(
+    state: State,
+    archive: &mut [u8],
+    pool: &[u8],
+    groups: &mut [u32],
+    table: &[u16],
+    owners: &[u32],
+    history: &mut [u16],
+    lines: u32,
+    frames: u32,
+    pages: u32,
+) -> Outcome
+    ensures { λ r. ⌜ Resets
+        (storageOf state (now (archive .entry)) (now (pool .entry)) (now (groups .entry)) (now (table .entry)) (now (owners .entry)) (now (history .entry)))
+        lines frames pages (r .refusal)
+        (storageOf (r .state) (now (archive .exit)) (now (pool .entry)) (now (groups .exit)) (now (table .entry)) (now (owners .entry)) (now (history .exit))) ⌝ }
+{
+    store::reset(
+        state,
+        archive,
+        pool,
+        groups,
+        table,
+        owners,
+        history,
+        lines,
+        frames,
+        pages,
+    )
+}
+
+// WRITE: writes pool, groups, table and owners.
+#[no_mangle]
+pub extern "C" fn vcm_write(
+    state: State,
+    archive: &[u8],
+    pool: &mut [u8],
+    groups: &mut [u32],
+    table: &mut [u16],
+    owners: &mut [u32],
+    history: &[u16],
+    width: u32,
+    address: u32,
+    value: u32,
+) -> Outcome
+    ensures { λ r. ⌜ Writes
+        (storageOf state (now (archive .entry)) (now (pool .entry)) (now (groups .entry)) (now (table .entry)) (now (owners .entry)) (now (history .entry)))
+        width address value (r .refusal)
+        (storageOf (r .state) (now (archive .entry)) (now (pool .exit)) (now (groups .exit)) (now (table .exit)) (now (owners .exit)) (now (history .entry))) ⌝ }
+{
+    store::write(
+        state,
+        archive,
+        pool,
+        groups,
+        table,
+        owners,
+        history,
+        width,
+        address,
+        value,
+    )
+}
+
+// READ: writes nothing lent; the cache in the state moves.
+#[no_mangle]
+pub extern "C" fn vcm_read(
+    state: State,
+    archive: &[u8],
+    pool: &[u8],
+    groups: &[u32],
+    table: &[u16],
+    owners: &[u32],
+    history: &[u16],
+    width: u32,
+    address: u32,
+) -> Reading
+    ensures { λ r. ⌜ ReadsAs
+        (storageOf state (now (archive .entry)) (now (pool .entry)) (now (groups .entry)) (now (table .entry)) (now (owners .entry)) (now (history .entry)))
+        width address (r .refusal) (r .value) (r .origin) (r .«marks_back»)
+        (storageOf (r .state) (now (archive .entry)) (now (pool .entry)) (now (groups .entry)) (now (table .entry)) (now (owners .entry)) (now (history .entry))) ⌝ }
+{
+    let r = store::read(
+        state,
+        archive,
+        pool,
+        groups,
+        table,
+        owners,
+        history,
+        width,
+        address,
+    );
+    let next = r.state;
+    let found = r.origin;
+    Reading {
+        state: next,
+        refusal: r.refusal,
+        value: r.value,
+        origin: origin_number(found),
+        marks_back: marks_back(found),
+    }
+}
+
+// LINE: puts the 16 bytes of the line's most recent version into the caller's, and gives the refusal or 0; refused, they stay.
+#[no_mangle]
+pub extern "C" fn vcm_line<'a>(
+    state: State,
+    archive: &'a [u8],
+    pool: &'a [u8],
+    groups: &[u32],
+    table: &[u16],
+    owners: &[u32],
+    history: &[u16],
+    line: u32,
+    bytes: &mut [u8; 16],
+) -> u32
+    ensures { λ r. ⌜ CopiesLine
+        (storageOf state (now (archive .entry)) (now (pool .entry)) (now (groups .entry)) (now (table .entry)) (now (owners .entry)) (now (history .entry)))
+        line r (now (bytes .entry)) (now (bytes .exit)) ⌝ }
+{
+    let refusal = store::line_refusal(state, archive, pool, groups, table, owners, history, line);
+    let part = store::line(state, archive, pool, groups, table, owners, history, line);
+    copy_line(part, bytes);
+    refusal
+}
+
+// LINE's companion: its refusal or 0.
+#[no_mangle]
+pub extern "C" fn vcm_line_refusal(
+    state: State,
+    archive: &[u8],
+    pool: &[u8],
+    groups: &[u32],
+    table: &[u16],
+    owners: &[u32],
+    history: &[u16],
+    line: u32,
+) -> u32
+    ensures { λ r. ⌜ Promises (LINE-REFUSAL line)
+        (storageOf state (now (archive .entry)) (now (pool .entry)) (now (groups .entry)) (now (table .entry)) (now (owners .entry)) (now (history .entry)))
+        (outcome r)
+        (storageOf state (now (archive .entry)) (now (pool .entry)) (now (groups .entry)) (now (table .entry)) (now (owners .entry)) (now (history .entry))) ⌝ }
+{
+    store::line_refusal(state, archive, pool, groups, table, owners, history, line)
+}
+
+// MARK: writes nothing lent.
+#[no_mangle]
+pub extern "C" fn vcm_mark(
+    state: State,
+    archive: &[u8],
+    pool: &[u8],
+    groups: &[u32],
+    table: &[u16],
+    owners: &[u32],
+    history: &[u16],
+) -> Outcome
+    ensures { λ r. ⌜ Marks
+        (storageOf state (now (archive .entry)) (now (pool .entry)) (now (groups .entry)) (now (table .entry)) (now (owners .entry)) (now (history .entry)))
+        (r .refusal)
+        (storageOf (r .state) (now (archive .entry)) (now (pool .entry)) (now (groups .entry)) (now (table .entry)) (now (owners .entry)) (now (history .entry))) ⌝ }
+{
+    store::mark(state, archive, pool, groups, table, owners, history)
+}
+
+// ROLLBACK: writes groups and history.
+#[no_mangle]
+pub extern "C" fn vcm_rollback(
+    state: State,
+    archive: &[u8],
+    pool: &[u8],
+    groups: &mut [u32],
+    table: &[u16],
+    owners: &[u32],
+    history: &mut [u16],
+    k: u32,
+) -> Outcome
+    ensures { λ r. ⌜ RollsBack
+        (storageOf state (now (archive .entry)) (now (pool .entry)) (now (groups .entry)) (now (table .entry)) (now (owners .entry)) (now (history .entry)))
+        k (r .refusal)
+        (storageOf (r .state) (now (archive .entry)) (now (pool .entry)) (now (groups .exit)) (now (table .entry)) (now (owners .entry)) (now (history .exit))) ⌝ }
+{
+    store::rollback(state, archive, pool, groups, table, owners, history, k)
+}
+
+// ADVANCE: writes archive, groups and history.
+#[no_mangle]
+pub extern "C" fn vcm_advance(
+    state: State,
+    archive: &mut [u8],
+    pool: &[u8],
+    groups: &mut [u32],
+    table: &[u16],
+    owners: &[u32],
+    history: &mut [u16],
+    k: u32,
+) -> Outcome
+    ensures { λ r. ⌜ Advances
+        (storageOf state (now (archive .entry)) (now (pool .entry)) (now (groups .entry)) (now (table .entry)) (now (owners .entry)) (now (history .entry)))
+        k (r .refusal)
+        (storageOf (r .state) (now (archive .exit)) (now (pool .entry)) (now (groups .exit)) (now (table .entry)) (now (owners .entry)) (now (history .exit))) ⌝ }
+{
+    store::advance(state, archive, pool, groups, table, owners, history, k)
+}
+
+// COUNTS: writes nothing.
+#[no_mangle]
+pub extern "C" fn vcm_counts(
+    state: State,
+    archive: &[u8],
+    pool: &[u8],
+    groups: &[u32],
+    table: &[u16],
+    owners: &[u32],
+    history: &[u16],
+) -> Counted
+    ensures { λ r. ⌜ Promises COUNTS
+        (storageOf state (now (archive .entry)) (now (pool .entry)) (now (groups .entry)) (now (table .entry)) (now (owners .entry)) (now (history .entry)))
+        (counting (r .refusal) (r .live) (r .pages))
+        (storageOf state (now (archive .entry)) (now (pool .entry)) (now (groups .entry)) (now (table .entry)) (now (owners .entry)) (now (history .entry))) ⌝ }
+{
+    store::counts(state, archive, pool, groups, table, owners, history)
+}
+
+// CHECK: writes nothing.
+#[no_mangle]
+pub extern "C" fn vcm_check(
+    state: State,
+    archive: &[u8],
+    pool: &[u8],
+    groups: &[u32],
+    table: &[u16],
+    owners: &[u32],
+    history: &[u16],
+) -> Verdict
+    ensures { λ r. ⌜ ChecksAs
+        (storageOf state (now (archive .entry)) (now (pool .entry)) (now (groups .entry)) (now (table .entry)) (now (owners .entry)) (now (history .entry)))
+        (r .refusal) (r .yes) ⌝ }
+{
+    let r = store::check(state, archive, pool, groups, table, owners, history);
+    if r.yes {
+        return Verdict {
+            refusal: r.refusal,
+            yes: 1,
+        };
+    }
+    Verdict {
+        refusal: r.refusal,
+        yes: 0,
+    }
+}

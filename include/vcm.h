@@ -1,0 +1,226 @@
+/*
+ * vcm.h - version controlled memory: the Rollback Chip of Fujimoto, Tsai and Gopalakrishnan (1988).
+ *
+ * A store is memory of 16 x L bytes in L lines of 16 bytes. MARK opens a new mark frame, ROLLBACK drops the newest frames and brings
+ * back what was there before, ADVANCE folds the oldest frames into the archive. Nothing is copied at a mark and no written bit is
+ * cleared at a rollback.
+ *
+ * Link with libvcm.a, which `rt staticlib vcm` writes to target/staticlib (x86-64 Linux). It calls memcpy and memset alone, allocates
+ * nothing and keeps nothing between calls: all that a store is lies in its state and in the six pieces of memory that the caller lends.
+ *
+ * Every call is proved: it ends, it stays inside the lent memory, it is refused exactly for the reasons below, and a refused call leaves
+ * state and lent memory untouched. It asks nothing of the state and of what the lent memory holds. What a caller owes is C's own:
+ *   - each pointer is aligned for its type and points to as many elements as its length says; it is never NULL, also for length 0;
+ *   - the six pieces, and LINE's bytes, do not overlap;
+ *   - no other thread touches them during a call.
+ */
+#ifndef VCM_H
+#define VCM_H
+
+#include <stddef.h>
+#include <stdint.h>
+
+#ifdef __cplusplus
+#define VCM_STATIC_ASSERT(condition, text) static_assert(condition, text)
+extern "C" {
+#else
+#define VCM_STATIC_ASSERT(condition, text) _Static_assert(condition, text)
+#endif
+
+/* ---- Settings ---------------------------------------------------------------------------------------------------------------------
+ *
+ *   lines   L: lines of 16 bytes. A multiple of 8 from 8 to 4,096.
+ *   frames  F: mark frames, used in a circle. A multiple of 16 from 16 to 256.
+ *   pages   P: data pages of 128 bytes. 1 to 4,096. A page holds 8 neighbouring lines of one frame.
+ */
+
+/* ---- Refusals ---------------------------------------------------------------------------------------------------------------------
+ *
+ * A call gives 0, or the first of these that holds. (1, 2 and 3 belong to the session runner.)
+ */
+#define VCM_OK 0
+#define VCM_LIMITS 4        /* L, F or P is outside its limits (vcm_reset, vcm_sizes) */
+#define VCM_BAD_STATE 5     /* the state given holds settings outside their limits, or a CMF or OMF outside 0 to F - 1 */
+#define VCM_LENT_SHORT 6    /* a lent piece is shorter than vcm_sizes says */
+#define VCM_WIDTH 7         /* the width is not 1, 2 or 4 */
+#define VCM_ALIGNMENT 8     /* the address is not a multiple of the width */
+#define VCM_OUTSIDE 9       /* the address plus the width passes 16 x L, or the line number is not below L */
+#define VCM_VALUE 10        /* the value needs more bytes than the width */
+#define VCM_MARKS 11        /* k is 0 or more than the marked states, which are one less than the live frames */
+#define VCM_FRAMES_FULL 12  /* MARK finds all F frames live */
+#define VCM_PAGES_FULL 13   /* WRITE's page in the current frame is not needed yet, and P pages are needed already */
+
+/* ---- Structs ----------------------------------------------------------------------------------------------------------------------
+ *
+ * They cross by value. No field is a bool or an enum: any bytes are a state. Treat the fields of a state as the library's own; they are
+ * listed so that a state can be saved and looked at.
+ */
+
+/* The cache: 16 sets of two ways. The entry of a set's way is 2 x set + way. Size 752, alignment 4. */
+typedef struct vcm_cache {
+    uint32_t lines[32];  /*   0: the line that the entry holds */
+    uint16_t frames[32]; /* 128: the frame of the line's most recent version, or 65535 for the archive */
+    uint8_t valid[32];   /* 192: 1 for a valid entry */
+    uint8_t bytes[512];  /* 224: 16 for each entry */
+    uint8_t last[16];    /* 736: for each set, the way used last */
+} vcm_cache;
+
+/* The state of a store. Size 780, alignment 4. */
+typedef struct vcm_state {
+    uint32_t lines;  /*  0: L, or 0 in the blank state */
+    uint32_t frames; /*  4: F */
+    uint32_t pages;  /*  8: P */
+    uint32_t cmf;    /* 12: the current frame */
+    uint32_t omf;    /* 16: the oldest frame */
+    uint32_t tag;    /* 20: the tag of the written bits set now */
+    uint32_t hint;   /* 24: where the search for a free page starts */
+    vcm_cache cache; /* 28 */
+} vcm_state;
+
+/* What a store needs of each lent piece, in BYTES. Refused, every size is 0. Size 56, alignment 8. */
+typedef struct vcm_need {
+    uint32_t refusal; /*  0 */
+    size_t archive;   /*  8: uint8_t,  16 x L */
+    size_t pool;      /* 16: uint8_t,  128 x P */
+    size_t groups;    /* 24: uint32_t, L x F / 4 */
+    size_t table;     /* 32: uint16_t, L x F / 4 */
+    size_t owners;    /* 40: uint32_t, 4 x P */
+    size_t history;   /* 48: uint16_t, 512 */
+} vcm_need;
+
+/* The state after a call, and its refusal or 0. Refused, the state is the one given. Size 784, alignment 4. */
+typedef struct vcm_outcome {
+    vcm_state state;  /*   0 */
+    uint32_t refusal; /* 780 */
+} vcm_outcome;
+
+/* Where a line read was found. */
+#define VCM_ARCHIVE 0
+#define VCM_FRAME 1
+#define VCM_CACHE 2
+
+/* READ's answer. Refused, the value is 0 and the origin VCM_ARCHIVE. Size 796, alignment 4. */
+typedef struct vcm_reading {
+    vcm_state state;     /*   0: reading moves the cache, so the state is a new one */
+    uint32_t refusal;    /* 780 */
+    uint32_t value;      /* 784 */
+    uint32_t origin;     /* 788: VCM_ARCHIVE, VCM_FRAME or VCM_CACHE */
+    uint32_t marks_back; /* 792: for VCM_FRAME how many marks back the frame lies, 0 for the current one; else 0 */
+} vcm_reading;
+
+/* COUNTS' answer. Refused, both are 0. Size 12, alignment 4. */
+typedef struct vcm_counted {
+    uint32_t refusal; /* 0 */
+    uint32_t live;    /* 4: live frames */
+    uint32_t pages;   /* 8: pages needed */
+} vcm_counted;
+
+/* CHECK's answer. Refused, it is no. Size 8, alignment 4. */
+typedef struct vcm_verdict {
+    uint32_t refusal; /* 0 */
+    uint32_t yes;     /* 4: 1 for yes, 0 for no */
+} vcm_verdict;
+
+VCM_STATIC_ASSERT(sizeof(size_t) == 8, "libvcm.a is built for 64 bits");
+VCM_STATIC_ASSERT(sizeof(vcm_cache) == 752, "vcm_cache");
+VCM_STATIC_ASSERT(sizeof(vcm_state) == 780, "vcm_state");
+VCM_STATIC_ASSERT(sizeof(vcm_need) == 56, "vcm_need");
+VCM_STATIC_ASSERT(sizeof(vcm_outcome) == 784, "vcm_outcome");
+VCM_STATIC_ASSERT(sizeof(vcm_reading) == 796, "vcm_reading");
+VCM_STATIC_ASSERT(sizeof(vcm_counted) == 12, "vcm_counted");
+VCM_STATIC_ASSERT(sizeof(vcm_verdict) == 8, "vcm_verdict");
+
+/* ---- Lent memory ------------------------------------------------------------------------------------------------------------------
+ *
+ * Every call is lent all six pieces, each as a pointer and its length in ELEMENTS: the bytes of vcm_sizes over the size of an element. A
+ * longer piece is fine, and what lies past the need is never touched. A piece that a call does not write is const there.
+ */
+typedef struct vcm_memory {
+    uint8_t *archive;
+    size_t archive_len;
+    uint8_t *pool;
+    size_t pool_len;
+    uint32_t *groups;
+    size_t groups_len;
+    uint16_t *table;
+    size_t table_len;
+    uint32_t *owners;
+    size_t owners_len;
+    uint16_t *history;
+    size_t history_len;
+} vcm_memory;
+
+/* The twelve arguments by which a vcm_memory is lent: vcm_mark(state, VCM_LENT(memory)). */
+#define VCM_LENT(m)                                                                                                    \
+    (m).archive, (m).archive_len, (m).pool, (m).pool_len, (m).groups, (m).groups_len, (m).table, (m).table_len,        \
+        (m).owners, (m).owners_len, (m).history, (m).history_len
+
+/* ---- Calls ------------------------------------------------------------------------------------------------------------------------
+ *
+ * A store is started by vcm_reset on any state and any lent contents, say vcm_blank(). Each later call gets the state and the lent memory
+ * just as the call before it, refused or not, returned or left them.
+ */
+
+/* The sizing call: the exact need of each piece. Refused: 4. */
+vcm_need vcm_sizes(uint32_t lines, uint32_t frames, uint32_t pages);
+
+/* The blank state, with L = 0. Every call but RESET refuses it with 5. */
+vcm_state vcm_blank(void);
+
+/* RESET: archive all zero, one live frame, no written bits, all pages free, cache empty. Refused: 4, 6. */
+vcm_outcome vcm_reset(vcm_state state, uint8_t *archive, size_t archive_len, const uint8_t *pool, size_t pool_len, uint32_t *groups,
+                      size_t groups_len, const uint16_t *table, size_t table_len, const uint32_t *owners, size_t owners_len,
+                      uint16_t *history, size_t history_len, uint32_t lines, uint32_t frames, uint32_t pages);
+
+/* WRITE: width 1, 2 or 4 bytes, most significant byte first, to the current frame. Refused: 5, 6, 7, 8, 9, 10, 13. */
+vcm_outcome vcm_write(vcm_state state, const uint8_t *archive, size_t archive_len, uint8_t *pool, size_t pool_len, uint32_t *groups,
+                      size_t groups_len, uint16_t *table, size_t table_len, uint32_t *owners, size_t owners_len,
+                      const uint16_t *history, size_t history_len, uint32_t width, uint32_t address, uint32_t value);
+
+/* READ: the value and its origin. Refused: 5, 6, 7, 8, 9. */
+vcm_reading vcm_read(vcm_state state, const uint8_t *archive, size_t archive_len, const uint8_t *pool, size_t pool_len,
+                     const uint32_t *groups, size_t groups_len, const uint16_t *table, size_t table_len, const uint32_t *owners,
+                     size_t owners_len, const uint16_t *history, size_t history_len, uint32_t width, uint32_t address);
+
+/* LINE: copies the 16 bytes of the line's most recent version; refused, they stay as they are. Changes nothing else, the cache included.
+ * Gives its refusal or 0: 5, 6, 9. */
+uint32_t vcm_line(vcm_state state, const uint8_t *archive, size_t archive_len, const uint8_t *pool, size_t pool_len,
+                  const uint32_t *groups, size_t groups_len, const uint16_t *table, size_t table_len, const uint32_t *owners,
+                  size_t owners_len, const uint16_t *history, size_t history_len, uint32_t line, uint8_t bytes[16]);
+
+/* LINE's companion: its refusal or 0, and no bytes. */
+uint32_t vcm_line_refusal(vcm_state state, const uint8_t *archive, size_t archive_len, const uint8_t *pool, size_t pool_len,
+                          const uint32_t *groups, size_t groups_len, const uint16_t *table, size_t table_len, const uint32_t *owners,
+                          size_t owners_len, const uint16_t *history, size_t history_len, uint32_t line);
+
+/* MARK: opens the next frame, without written bits. Refused: 5, 6, 12. */
+vcm_outcome vcm_mark(vcm_state state, const uint8_t *archive, size_t archive_len, const uint8_t *pool, size_t pool_len,
+                     const uint32_t *groups, size_t groups_len, const uint16_t *table, size_t table_len, const uint32_t *owners,
+                     size_t owners_len, const uint16_t *history, size_t history_len);
+
+/* ROLLBACK: drops the k newest frames. The restored mark is used up. Refused: 5, 6, 11. */
+vcm_outcome vcm_rollback(vcm_state state, const uint8_t *archive, size_t archive_len, const uint8_t *pool, size_t pool_len,
+                         uint32_t *groups, size_t groups_len, const uint16_t *table, size_t table_len, const uint32_t *owners,
+                         size_t owners_len, uint16_t *history, size_t history_len, uint32_t k);
+
+/* ADVANCE: folds the k oldest frames into the archive, newest version of each line winning, and frees them. Refused: 5, 6, 11. */
+vcm_outcome vcm_advance(vcm_state state, uint8_t *archive, size_t archive_len, const uint8_t *pool, size_t pool_len, uint32_t *groups,
+                        size_t groups_len, const uint16_t *table, size_t table_len, const uint32_t *owners, size_t owners_len,
+                        uint16_t *history, size_t history_len, uint32_t k);
+
+/* COUNTS: live frames, and pages needed. A page of a live frame is needed if a line in it was written there. Refused: 5, 6. */
+vcm_counted vcm_counts(vcm_state state, const uint8_t *archive, size_t archive_len, const uint8_t *pool, size_t pool_len,
+                       const uint32_t *groups, size_t groups_len, const uint16_t *table, size_t table_len, const uint32_t *owners,
+                       size_t owners_len, const uint16_t *history, size_t history_len);
+
+/* CHECK: yes exactly if state and lent memory are well-formed, as all storage reached from RESET is. On storage that CHECK rejects an
+ * accepted call other than RESET and CHECK ends safely and its outcome is free. Refused: 5, 6. */
+vcm_verdict vcm_check(vcm_state state, const uint8_t *archive, size_t archive_len, const uint8_t *pool, size_t pool_len,
+                      const uint32_t *groups, size_t groups_len, const uint16_t *table, size_t table_len, const uint32_t *owners,
+                      size_t owners_len, const uint16_t *history, size_t history_len);
+
+#ifdef __cplusplus
+}
+#endif
+
+#endif

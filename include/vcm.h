@@ -11,6 +11,7 @@
  * Every call is proved: it ends, it stays inside the lent memory, it is refused exactly for the reasons below, and a refused call leaves
  * state and lent memory untouched. It asks nothing of the state and of what the lent memory holds. What a caller owes is C's own:
  *   - each pointer is aligned for its type and points to as many elements as its length says; it is never NULL, also for length 0;
+ *   - the elements, and the state, have been given some value, whatever it is: memory fresh from malloc has none, calloc's has;
  *   - the six pieces, and LINE's bytes, do not overlap;
  *   - no other thread touches them during a call.
  */

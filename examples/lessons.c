@@ -1,0 +1,116 @@
+/*
+ * A timetable on trial. A room is a line of the store and an hour two bytes of it, which hold the number of the lesson placed there or
+ * 0. Lessons are placed, others are tried, and what was tried and taken back is not read again. rust/examples/lessons.rs is the same in
+ * Rust; examples/run builds and runs both.
+ */
+#include <stdio.h>
+#include <stdlib.h>
+
+#include "vcm.h"
+
+enum { ROOMS = 8, FRAMES = 16, PAGES = 4 };
+
+static vcm_state state;
+static vcm_memory memory;
+
+/* The state of a call that the plan cannot do without. */
+static void go_on(vcm_outcome r) {
+    if (r.refusal != VCM_OK) {
+        fprintf(stderr, "refusal %u\n", (unsigned)r.refusal);
+        exit(1);
+    }
+    state = r.state;
+}
+
+/* Any contents will do, but they must be some: fresh memory that was never written has none in C. */
+static void *lent(size_t bytes) {
+    void *piece = calloc(bytes, 1);
+    if (piece == NULL) {
+        fputs("no memory\n", stderr);
+        exit(1);
+    }
+    return piece;
+}
+
+/* Lends memory of exactly the need, and starts the store in it. */
+static void start(void) {
+    vcm_need need = vcm_sizes(ROOMS, FRAMES, PAGES);
+    memory.archive = lent(need.archive);
+    memory.archive_len = need.archive;
+    memory.pool = lent(need.pool);
+    memory.pool_len = need.pool;
+    memory.groups = lent(need.groups);
+    memory.groups_len = need.groups / sizeof *memory.groups;
+    memory.table = lent(need.table);
+    memory.table_len = need.table / sizeof *memory.table;
+    memory.owners = lent(need.owners);
+    memory.owners_len = need.owners / sizeof *memory.owners;
+    memory.history = lent(need.history);
+    memory.history_len = need.history / sizeof *memory.history;
+    go_on(vcm_reset(vcm_blank(), VCM_LENT(memory), ROOMS, FRAMES, PAGES));
+}
+
+static void place(uint32_t room, uint32_t hour, uint32_t lesson) {
+    go_on(vcm_write(state, VCM_LENT(memory), 2, 16 * room + 2 * hour, lesson));
+    printf("place lesson %u in room %u at hour %u\n", (unsigned)lesson, (unsigned)room, (unsigned)hour);
+}
+
+static void show(uint32_t room, uint32_t hour) {
+    vcm_reading r = vcm_read(state, VCM_LENT(memory), 2, 16 * room + 2 * hour);
+    state = r.state;
+    printf("room %u at hour %u: lesson %u, ", (unsigned)room, (unsigned)hour, (unsigned)r.value);
+    switch (r.origin) {
+    case VCM_CACHE:
+        puts("from the cache");
+        break;
+    case VCM_FRAME:
+        printf("from %u marks back\n", (unsigned)r.marks_back);
+        break;
+    default:
+        puts("from the archive");
+    }
+}
+
+static void show_room(uint32_t room) {
+    uint8_t bytes[16] = {0};
+    vcm_line(state, VCM_LENT(memory), room, bytes);
+    printf("room %u: [%u", (unsigned)room, (unsigned)bytes[0]);
+    for (int i = 1; i < 16; i++) {
+        printf(", %u", (unsigned)bytes[i]);
+    }
+    puts("]");
+}
+
+int main(void) {
+    start();
+    place(1, 0, 101);
+    place(1, 1, 102);
+    place(2, 0, 201);
+
+    puts("mark, and try two lessons");
+    go_on(vcm_mark(state, VCM_LENT(memory)));
+    place(1, 1, 305);
+    place(3, 2, 306);
+    show(1, 1);
+    show(3, 2);
+
+    puts("take them back");
+    go_on(vcm_rollback(state, VCM_LENT(memory), 1));
+    show(1, 1);
+    show(3, 2);
+
+    puts("mark, try another, and keep it");
+    go_on(vcm_mark(state, VCM_LENT(memory)));
+    place(3, 2, 307);
+    go_on(vcm_mark(state, VCM_LENT(memory)));
+    go_on(vcm_advance(state, VCM_LENT(memory), 2));
+    show(3, 2);
+    vcm_outcome back = vcm_rollback(state, VCM_LENT(memory), 1);
+    if (back.refusal != VCM_OK) {
+        printf("no mark is left: refusal %u\n", (unsigned)back.refusal);
+    }
+    vcm_counted counts = vcm_counts(state, VCM_LENT(memory));
+    printf("live frames %u, pages %u\n", (unsigned)counts.live, (unsigned)counts.pages);
+    show_room(1);
+    return 0;
+}

@@ -1,0 +1,53 @@
+//! A timetable on trial. A room is a line of the store and an hour two bytes of it, which hold the number of the lesson placed there
+//! or 0. Lessons are placed, others are tried, and what was tried and taken back is not read again.
+use vcm::{Origin, Refusal, Store};
+
+fn place(store: &mut Store, room: u32, hour: u32, lesson: u32) -> Result<(), Refusal> {
+    store.write(2, 16 * room + 2 * hour, lesson)?;
+    println!("place lesson {lesson} in room {room} at hour {hour}");
+    Ok(())
+}
+
+fn show(store: &mut Store, room: u32, hour: u32) -> Result<(), Refusal> {
+    let reading = store.read(2, 16 * room + 2 * hour)?;
+    print!("room {room} at hour {hour}: lesson {}, ", reading.value);
+    match reading.origin {
+        Origin::Cache => println!("from the cache"),
+        Origin::Frame(back) => println!("from {back} marks back"),
+        Origin::Archive => println!("from the archive"),
+    }
+    Ok(())
+}
+
+fn main() -> Result<(), Refusal> {
+    let mut store = Store::new(8, 16, 4)?;
+    place(&mut store, 1, 0, 101)?;
+    place(&mut store, 1, 1, 102)?;
+    place(&mut store, 2, 0, 201)?;
+
+    println!("mark, and try two lessons");
+    store.mark()?;
+    place(&mut store, 1, 1, 305)?;
+    place(&mut store, 3, 2, 306)?;
+    show(&mut store, 1, 1)?;
+    show(&mut store, 3, 2)?;
+
+    println!("take them back");
+    store.rollback(1)?;
+    show(&mut store, 1, 1)?;
+    show(&mut store, 3, 2)?;
+
+    println!("mark, try another, and keep it");
+    store.mark()?;
+    place(&mut store, 3, 2, 307)?;
+    store.mark()?;
+    store.advance(2)?;
+    show(&mut store, 3, 2)?;
+    if let Err(refusal) = store.rollback(1) {
+        println!("no mark is left: refusal {}", refusal.number());
+    }
+    let counts = store.counts()?;
+    println!("live frames {}, pages {}", counts.live, counts.pages);
+    println!("room 1: {:?}", store.line(1)?);
+    Ok(())
+}

@@ -1,0 +1,333 @@
+//! Damage done to well-formed storage: in what matters, aimed at each clause of well-formedness, and in what does not matter.
+use crate::rng::Rng;
+use crate::stored::Stored;
+use crate::wellformed::{tag_of, ARCHIVE, OPEN};
+
+impl Stored {
+    /// Damage where it should not matter.
+    pub fn harmless(&mut self, rng: &Rng) {
+        let tag = self.state.tag as usize;
+        match rng.below(13) {
+            0 => self.state.hint = rng.odd_word(),
+            // entries of tags not used yet
+            1 => {
+                let history = self.memory.history.get_mut();
+                for entry in history.iter_mut().skip(tag + 1) {
+                    *entry = rng.pick(&[0, 1, OPEN, OPEN - 1, rng.short()]);
+                }
+            }
+            // what lies above a group's tag
+            2 => {
+                let groups = self.memory.groups.get_mut();
+                groups[rng.place(groups.len())] ^= rng.word() & 0xFF00_0000;
+            }
+            // the tag of a group without bits
+            3 => {
+                let groups = self.memory.groups.get_mut();
+                let at = rng.place(groups.len());
+                if groups[at] & 0xFFFF == 0 {
+                    groups[at] = rng.word() & 0xFFFF_0000;
+                }
+            }
+            4 => self.stale_bit(rng),
+            // a table entry of a place that is not needed
+            5 => {
+                if let Some((index, block)) = self.place_of(rng, false) {
+                    let at = self.table_place(index, block);
+                    let pages = self.state.pages;
+                    self.memory.table.get_mut()[at] =
+                        rng.pick(&[rng.short(), pages as u16, rng.below(pages) as u16]);
+                }
+            }
+            // the owner of a page that is not held
+            6 => {
+                if let Some(page) = self.free_page(rng) {
+                    let places = self.state.frames * (self.state.lines / 8);
+                    self.memory.owners.get_mut()[page as usize] =
+                        rng.pick(&[rng.word(), places, rng.below(places)]);
+                }
+            }
+            // a byte of the archive or of the pool: another history, unless the cache has the line
+            7 => {
+                let archive = self.memory.archive.get_mut();
+                archive[rng.place(archive.len())] ^= 1 << rng.below(8);
+            }
+            8 => {
+                let pool = self.memory.pool.get_mut();
+                pool[rng.place(pool.len())] ^= 1 << rng.below(8);
+            }
+            // an entry that is not valid
+            9 => {
+                if let Some(entry) = self.entry_of(rng, false) {
+                    let cache = &mut self.state.cache;
+                    cache.lines[entry] = rng.below(2 * self.state.lines);
+                    cache.frames[entry] = rng.short();
+                    cache.valid[entry] = rng.pick(&[0, 2, 3, 255]);
+                    cache.bytes[16 * entry + rng.place(16)] ^= 0xFF;
+                }
+            }
+            10 => self.state.cache.last[rng.place(16)] = rng.pick(&[0, 1, 2, 255]),
+            // one more valid entry, in its place and right
+            11 => {
+                if let (Some(entry), line) =
+                    (self.entry_of(rng, false), rng.below(self.state.lines))
+                {
+                    let is_held = (0..32).any(|e| {
+                        self.state.cache.valid[e] == 1 && self.state.cache.lines[e] == line
+                    });
+                    let home = 2 * (line as usize % 16) + entry % 2;
+                    if !is_held && self.state.cache.valid[home] != 1 {
+                        self.fill_entry(home, line);
+                    }
+                }
+            }
+            // another page for a needed place
+            _ => {
+                if let (Some((index, block)), Some(page)) =
+                    (self.place_of(rng, true), self.free_page(rng))
+                {
+                    let place = self.table_place(index, block);
+                    self.move_page(place, page);
+                }
+            }
+        }
+    }
+
+    /// Sets a bit that the history masks.
+    fn stale_bit(&mut self, rng: &Rng) {
+        let storage = self.storage();
+        let (index, line) = (rng.below(self.state.frames), rng.below(self.state.lines));
+        let frame = storage.frame_at(index);
+        let at = storage.group_place(frame, line);
+        let group = storage.memory.groups[at];
+        let bound = u32::from(storage.memory.history[tag_of(group)]);
+        if index >= bound && (group >> 16 & 0xFF) <= self.state.tag {
+            self.memory.groups.get_mut()[at] |= 1 << (frame % 16);
+        }
+    }
+
+    /// Damage to any one element or field, whatever it means.
+    pub fn anywhere(&mut self, rng: &Rng) {
+        let live = self.storage().live();
+        match rng.below(10) {
+            0 => {
+                let near = [live, live + 1, live.saturating_sub(1), 0, 1, 65534, 65535];
+                let value = rng.pick(&near) as u16;
+                let history = self.memory.history.get_mut();
+                let at = match rng.below(3) {
+                    0 => self.state.tag.min(255) as usize,
+                    1 => rng.below(self.state.tag.min(255) + 1) as usize,
+                    _ => rng.place(history.len()),
+                };
+                history[at] = rng.pick(&[value, rng.short(), history[at].wrapping_add(1)]);
+            }
+            1 => {
+                let groups = self.memory.groups.get_mut();
+                let at = rng.place(groups.len());
+                let old = groups[at];
+                let bit = old ^ 1 << rng.below(16);
+                let tag = old & 0xFFFF | rng.below(256) << 16;
+                groups[at] = rng.pick(&[bit, bit, tag, rng.word(), 0]);
+            }
+            2 => {
+                let pages = self.state.pages;
+                let table = self.memory.table.get_mut();
+                let at = rng.place(table.len());
+                table[at] = rng.pick(&[rng.below(pages) as u16, pages as u16, rng.short()]);
+            }
+            3 => {
+                let places = self.state.frames * (self.state.lines / 8);
+                let owners = self.memory.owners.get_mut();
+                let at = rng.place(owners.len());
+                owners[at] = rng.pick(&[rng.below(places), places, rng.word()]);
+            }
+            4 => {
+                let archive = self.memory.archive.get_mut();
+                archive[rng.place(archive.len())] = rng.word() as u8;
+            }
+            5 => {
+                let pool = self.memory.pool.get_mut();
+                pool[rng.place(pool.len())] = rng.word() as u8;
+            }
+            6 => {
+                let entry = rng.place(32);
+                let cache = &mut self.state.cache;
+                match rng.below(4) {
+                    0 => {
+                        cache.lines[entry] =
+                            rng.pick(&[rng.below(self.state.lines), rng.odd_word()])
+                    }
+                    1 => {
+                        cache.frames[entry] =
+                            rng.pick(&[rng.below(self.state.frames) as u16, ARCHIVE, rng.short()])
+                    }
+                    2 => cache.valid[entry] = rng.pick(&[0, 1, 2, 255]),
+                    _ => cache.bytes[rng.place(512)] ^= 1 << rng.below(8),
+                }
+            }
+            7 => {
+                let frames = self.state.frames;
+                let value = rng.pick(&[rng.below(frames), frames, rng.odd_word()]);
+                if rng.one_in(2) {
+                    self.state.cmf = value;
+                } else {
+                    self.state.omf = value;
+                }
+            }
+            8 => {
+                self.state.tag = rng.pick(&[
+                    0,
+                    self.state.tag.wrapping_sub(1),
+                    self.state.tag + 1,
+                    255,
+                    256,
+                    rng.odd_word(),
+                ])
+            }
+            _ => {
+                let field = rng.pick(&[0, 1, 2]);
+                let state = &mut self.state;
+                match field {
+                    0 => {
+                        state.lines = rng.pick(&[
+                            8,
+                            state.lines - 8,
+                            state.lines + 8,
+                            state.lines + 1,
+                            rng.odd_word(),
+                        ])
+                    }
+                    1 => {
+                        state.frames =
+                            rng.pick(&[16, state.frames - 16, state.frames + 16, rng.odd_word()])
+                    }
+                    _ => {
+                        state.pages =
+                            rng.pick(&[1, state.pages - 1, state.pages + 1, rng.odd_word()])
+                    }
+                }
+            }
+        }
+    }
+
+    /// Damage that only one clause of well-formedness notices, where the storage has the place for it.
+    pub fn aimed(&mut self, rng: &Rng) {
+        let tag = self.state.tag;
+        match rng.below(13) {
+            0 => {
+                // a tag of 9 bits, with an open entry past the need
+                self.lengthen(rng);
+                let history = self.memory.history.get_mut();
+                let top = rng.between(256, history.len() as u32 - 1);
+                history[tag as usize + 1..=top as usize].fill(OPEN);
+                self.state.tag = top;
+            }
+            1 => self.tag_ahead(rng),
+            2 => self.memory.history.get_mut()[tag as usize] = rng.pick(&[OPEN - 1, 256, 300]),
+            3 if tag > 0 => {
+                let history = self.memory.history.get_mut();
+                let at = rng.below(tag) as usize;
+                history[at] = history[at + 1].saturating_add(1);
+            }
+            4 => self.dead_frame(rng),
+            5 => {
+                // the page just behind the P
+                if let Some((index, block)) = self.place_of(rng, true) {
+                    self.lengthen(rng);
+                    let place = self.table_place(index, block);
+                    self.move_page(place, self.state.pages);
+                }
+            }
+            6 => {
+                if let Some((index, block)) = self.place_of(rng, true) {
+                    let place = self.table_place(index, block);
+                    let page = usize::from(self.memory.table.get()[place]);
+                    let other = rng.pick(&[place as u32 ^ 1, rng.word(), u32::MAX]);
+                    self.memory.owners.get_mut()[page] = other;
+                }
+            }
+            7 => {
+                let (entry, line) = (rng.place(32), rng.below(self.state.lines));
+                if line as usize % 16 != entry / 2 {
+                    self.fill_entry(entry, line);
+                }
+            }
+            8 => {
+                let entry = rng.place(32);
+                let line = self.state.lines.next_multiple_of(16) + (entry / 2) as u32;
+                let line = line + 16 * rng.below(3);
+                self.fill_entry(entry, rng.pick(&[line, u32::MAX - 15 + (entry / 2) as u32]));
+            }
+            9 => {
+                if let Some(entry) = self.entry_of(rng, true) {
+                    self.fill_entry(entry ^ 1, self.state.cache.lines[entry]);
+                }
+            }
+            10 => {
+                if let Some(entry) = self.entry_of(rng, true) {
+                    self.state.cache.bytes[16 * entry + rng.place(16)] ^= 1 << rng.below(8);
+                }
+            }
+            11 => {
+                if let Some(entry) = self.entry_of(rng, true) {
+                    let frame = rng.below(self.state.frames) as u16;
+                    self.state.cache.frames[entry] =
+                        rng.pick(&[frame, ARCHIVE, ARCHIVE - 1, self.state.frames as u16]);
+                }
+            }
+            _ => {
+                // two places share a page, which knows one of them
+                if let (Some((index, block)), Some((other, its))) =
+                    (self.place_of(rng, true), self.place_of(rng, true))
+                {
+                    let page = self.memory.table.get()[self.table_place(other, its)];
+                    let place = self.table_place(index, block);
+                    self.memory.table.get_mut()[place] = page;
+                }
+            }
+        }
+    }
+
+    /// A group's tag moved above the current one; its bits stay what they are.
+    fn tag_ahead(&mut self, rng: &Rng) {
+        let groups = self.memory.groups.get();
+        let first = rng.place(groups.len());
+        let mut places = (0..groups.len()).map(|n| (first + n) % groups.len());
+        let Some(at) = places.find(|at| groups[*at] & 0xFFFF != 0) else {
+            return;
+        };
+        if self.state.tag < 255 {
+            let group = groups[at];
+            let ahead = rng.between(self.state.tag + 1, 255);
+            let history = self.memory.history.get_mut();
+            history[ahead as usize] = history[tag_of(group)];
+            self.memory.groups.get_mut()[at] = group & 0xFFFF | ahead << 16;
+        }
+    }
+
+    /// An effective bit in a frame that is not live, with a page of its own.
+    fn dead_frame(&mut self, rng: &Rng) {
+        let live = self.storage().live();
+        let Some(page) = self.free_page(rng) else {
+            return;
+        };
+        if live == self.state.frames {
+            return;
+        }
+        let index = rng.between(live, self.state.frames - 1);
+        let line = rng.below(self.state.lines);
+        let storage = self.storage();
+        let frame = storage.frame_at(index);
+        let at = storage.group_place(frame, line);
+        let place = storage.table_place(frame, line);
+        let group = storage.memory.groups[at];
+        let bound = storage.memory.history[tag_of(group)];
+        let groups = self.memory.groups.get_mut();
+        if u32::from(bound) <= index || group & 0xFFFF == 0 {
+            groups[at] = self.state.tag << 16;
+        }
+        groups[at] |= 1 << (frame % 16);
+        self.memory.table.get_mut()[place] = page as u16;
+        self.memory.owners.get_mut()[page as usize] = place as u32;
+    }
+}

@@ -1,0 +1,261 @@
+//! An independent decision of the written well-formedness, clause by clause, and the history that well-formed storage stands for.
+//! Written from the definitions (specs of `storage`, `written`, `pages`, `cache` and `rules`), not from the library's tests.
+use crate::memory::Memory;
+use crate::plain::{Facts, Frame, Plain, Settings};
+use vcm::calls::Shown;
+use vcm::State;
+
+/// The clauses that a state within its limits and long enough memory can fail. (That bytes are bytes, arrays have their length and a
+/// version has 16 bytes holds by the types, the last once every needed page is one of the P.)
+#[derive(Clone, Copy, Debug, PartialEq, Eq)]
+pub enum Clause {
+    /// the tag has 8 bits
+    TagBelow,
+    /// a group with a bit set has no tag above the current one
+    TagsKnown,
+    /// the current tag has no rollback since
+    OpenTag,
+    /// no entry of a used tag is less deep than a newer one
+    Ordered,
+    /// effective bits are in live frames only
+    OnlyLive,
+    /// a needed place has one of the P pages
+    PageBelow,
+    /// and the page knows it
+    PageOwner,
+    /// a valid entry of way 0 is in its line's set
+    FirstSet,
+    /// and its line is below L
+    FirstBelow,
+    /// the same of way 1
+    SecondSet,
+    SecondBelow,
+    /// no line is in both ways
+    Once,
+    /// a valid entry has the most recent bytes
+    Bytes,
+    /// and the most recent version's frame
+    Frame,
+}
+
+pub const CLAUSES: [Clause; 14] = [
+    Clause::TagBelow,
+    Clause::TagsKnown,
+    Clause::OpenTag,
+    Clause::Ordered,
+    Clause::OnlyLive,
+    Clause::PageBelow,
+    Clause::PageOwner,
+    Clause::FirstSet,
+    Clause::FirstBelow,
+    Clause::SecondSet,
+    Clause::SecondBelow,
+    Clause::Once,
+    Clause::Bytes,
+    Clause::Frame,
+];
+
+pub const ARCHIVE: u16 = 65535;
+pub const OPEN: u16 = 65535;
+
+pub fn settings_of(state: &State) -> Settings {
+    Settings {
+        lines: state.lines,
+        frames: state.frames,
+        pages: state.pages,
+    }
+}
+
+/// What the refusals go by on any state and any memory.
+pub fn facts(state: &State, memory: &Memory) -> Facts {
+    let settings = settings_of(state);
+    let fits = settings.within() && state.cmf < state.frames && state.omf < state.frames;
+    Facts {
+        settings,
+        fits,
+        live: if fits {
+            (state.cmf + state.frames - state.omf) % state.frames + 1
+        } else {
+            0
+        },
+        lengths: memory.lengths(),
+    }
+}
+
+/// State and memory of which neither 5 nor 6 holds.
+#[derive(Clone, Copy)]
+pub struct Storage<'a> {
+    pub state: &'a State,
+    pub memory: Shown<'a>,
+}
+
+impl<'a> Storage<'a> {
+    pub fn live(&self) -> u32 {
+        let state = self.state;
+        (state.cmf + state.frames - state.omf) % state.frames + 1
+    }
+
+    pub fn frame_at(&self, index: u32) -> u32 {
+        (self.state.omf + index) % self.state.frames
+    }
+
+    pub fn group_place(&self, frame: u32, line: u32) -> usize {
+        (frame / 16 * self.state.lines + line) as usize
+    }
+
+    pub fn table_place(&self, frame: u32, line: u32) -> usize {
+        (frame * (self.state.lines / 8) + line / 8) as usize
+    }
+
+    /// A bit is effective if it is set and the index of its frame from OMF is below the bound of its group's tag.
+    pub fn effective(&self, index: u32, line: u32) -> bool {
+        let frame = self.frame_at(index);
+        let group = self.memory.groups[self.group_place(frame, line)];
+        group >> (frame % 16) & 1 == 1 && index < u32::from(self.memory.history[tag_of(group)])
+    }
+
+    /// Whether a line of the block has an effective bit in the frame of an index.
+    pub fn needed(&self, index: u32, block: u32) -> bool {
+        (8 * block..8 * block + 8).any(|line| self.effective(index, line))
+    }
+
+    /// The index from OMF of the frame that has a line's most recent version.
+    pub fn newest(&self, line: u32) -> Option<u32> {
+        (0..self.live())
+            .rev()
+            .find(|index| self.effective(*index, line))
+    }
+
+    /// The bytes of a version; none where the table names a page outside the pool lent.
+    pub fn version(&self, index: u32, line: u32) -> Option<&'a [u8]> {
+        let page = self.memory.table[self.table_place(self.frame_at(index), line)];
+        let from = 128 * usize::from(page) + 16 * (line as usize % 8);
+        self.memory.pool.get(from..from + 16)
+    }
+
+    pub fn archived(&self, line: u32) -> &'a [u8] {
+        &self.memory.archive[16 * line as usize..16 * line as usize + 16]
+    }
+
+    /// Frame and bytes of a line's most recent version. Past L there is nothing but zeros.
+    pub fn recent(&self, line: u32) -> (u16, Option<&'a [u8]>) {
+        if line >= self.state.lines {
+            return (ARCHIVE, Some(&[0; 16]));
+        }
+        match self.newest(line) {
+            Some(index) => (self.frame_at(index) as u16, self.version(index, line)),
+            None => (ARCHIVE, Some(self.archived(line))),
+        }
+    }
+
+    /// The clauses that fail.
+    pub fn failing(&self) -> Vec<Clause> {
+        let mut failing = Vec::new();
+        let mut hold = |clause, holds: bool| {
+            if !holds && !failing.contains(&clause) {
+                failing.push(clause);
+            }
+        };
+        self.bits(&mut hold);
+        self.pages(&mut hold);
+        self.cache(&mut hold);
+        failing
+    }
+
+    fn bits(&self, hold: &mut impl FnMut(Clause, bool)) {
+        let state = self.state;
+        let entry = |tag: u32| self.memory.history.get(tag as usize).copied().unwrap_or(0);
+        hold(Clause::TagBelow, state.tag < 256);
+        hold(Clause::OpenTag, entry(state.tag) == OPEN);
+        // past the end of the list every entry reads 0
+        let used = state.tag.min(self.memory.history.len() as u32);
+        hold(
+            Clause::Ordered,
+            (0..used).all(|tag| entry(tag) <= entry(tag + 1)),
+        );
+        let count = (state.frames / 16 * state.lines) as usize;
+        let is_known = |group: u32| group & 0xFFFF == 0 || tag_of(group) as u64 <= state.tag.into();
+        let groups = &self.memory.groups[..count];
+        hold(
+            Clause::TagsKnown,
+            groups.iter().all(|group| is_known(*group)),
+        );
+        let is_clear = |index| (0..state.lines).all(|line| !self.effective(index, line));
+        hold(Clause::OnlyLive, (self.live()..state.frames).all(is_clear));
+    }
+
+    fn pages(&self, hold: &mut impl FnMut(Clause, bool)) {
+        let state = self.state;
+        for index in 0..state.frames {
+            for block in 0..state.lines / 8 {
+                if !self.needed(index, block) {
+                    continue;
+                }
+                let place = self.table_place(self.frame_at(index), 8 * block);
+                let page = self.memory.table[place];
+                let owner = self.memory.owners.get(usize::from(page)).copied();
+                hold(Clause::PageBelow, u32::from(page) < state.pages);
+                hold(Clause::PageOwner, owner.unwrap_or(0) as usize == place);
+            }
+        }
+    }
+
+    fn cache(&self, hold: &mut impl FnMut(Clause, bool)) {
+        let cache = &self.state.cache;
+        for entry in 0..32 {
+            if cache.valid[entry] != 1 {
+                continue;
+            }
+            let line = cache.lines[entry];
+            let is_in_set = line as usize % 16 == entry / 2;
+            let is_below = line < self.state.lines;
+            if entry % 2 == 0 {
+                hold(Clause::FirstSet, is_in_set);
+                hold(Clause::FirstBelow, is_below);
+                let is_twice = cache.valid[entry + 1] == 1 && cache.lines[entry + 1] == line;
+                hold(Clause::Once, !is_twice);
+            } else {
+                hold(Clause::SecondSet, is_in_set);
+                hold(Clause::SecondBelow, is_below);
+            }
+            let (frame, bytes) = self.recent(line);
+            let held = &cache.bytes[16 * entry..16 * entry + 16];
+            hold(Clause::Frame, cache.frames[entry] == frame);
+            hold(Clause::Bytes, bytes == Some(held));
+        }
+    }
+
+    /// The surviving history that well-formed storage stands for, with its cache: none where a version lies outside the pool.
+    pub fn history(&self) -> Option<Plain> {
+        let state = self.state;
+        let mut plain = Plain::new(settings_of(state));
+        plain.base = self.memory.archive[..16 * state.lines as usize].to_vec();
+        plain.frames.clear();
+        let mut memory = plain.base.clone();
+        for index in 0..self.live() {
+            let mut frame = Frame::over(memory);
+            for line in 0..state.lines {
+                if self.effective(index, line) {
+                    frame.write(16 * line as usize, self.version(index, line)?);
+                }
+            }
+            memory = frame.memory.clone();
+            plain.frames.push(frame);
+        }
+        for (number, set) in plain.sets.iter_mut().enumerate() {
+            for way in 0..2 {
+                let entry = 2 * number + way;
+                if state.cache.valid[entry] == 1 {
+                    set.ways[way] = Some(state.cache.lines[entry]);
+                }
+            }
+            // the way used last
+            set.used[usize::from(state.cache.last[number] != 0)] = 1;
+        }
+        Some(plain)
+    }
+}
+
+pub fn tag_of(group: u32) -> usize {
+    (group >> 16 & 0xFF) as usize
+}

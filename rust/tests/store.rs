@@ -1,0 +1,124 @@
+//! The wrapper: its types, its memory and its errors. What the calls answer is the suite's.
+use vcm::{Counts, Origin, Reading, Refusal, Store};
+
+fn reading(value: u32, origin: Origin) -> Result<Reading, Refusal> {
+    Ok(Reading { value, origin })
+}
+
+/// Document 01's session, call by call.
+#[test]
+fn session() {
+    let mut store = Store::new(8, 16, 2).unwrap();
+    assert_eq!(store.write(4, 0, 305_419_896), Ok(()));
+    assert_eq!(store.mark(), Ok(()));
+    assert_eq!(store.write(1, 1, 255), Ok(()));
+    assert_eq!(store.read(4, 0), reading(318_723_704, Origin::Cache));
+    assert_eq!(store.mark(), Ok(()));
+    assert_eq!(store.write(1, 2, 1), Err(Refusal::Pages));
+    assert_eq!(store.rollback(2), Ok(()));
+    assert_eq!(store.read(4, 0), reading(305_419_896, Origin::Frame(0)));
+    assert_eq!(store.read(1, 16), reading(0, Origin::Archive));
+    assert_eq!(store.rollback(1), Err(Refusal::Marks));
+    assert_eq!(store.read(2, 1), Err(Refusal::Alignment));
+    assert_eq!(store.counts(), Ok(Counts { live: 1, pages: 1 }));
+    assert_eq!(store.check(), Ok(true));
+}
+
+#[test]
+fn each_refusal() {
+    assert_eq!(Store::new(7, 16, 1).err(), Some(Refusal::Settings));
+    assert_eq!(Store::new(8, 17, 1).err(), Some(Refusal::Settings));
+    assert_eq!(Store::new(8, 16, 0).err(), Some(Refusal::Settings));
+    let mut store = Store::new(8, 16, 1).unwrap();
+    assert_eq!(store.read(3, 1), Err(Refusal::Width));
+    assert_eq!(store.read(2, 127), Err(Refusal::Alignment));
+    assert_eq!(store.read(4, 128), Err(Refusal::Range));
+    assert_eq!(store.read(1, u32::MAX), Err(Refusal::Range));
+    assert_eq!(store.line(8), Err(Refusal::Range));
+    assert_eq!(store.write(1, 0, 256), Err(Refusal::Value));
+    assert_eq!(store.advance(1), Err(Refusal::Marks));
+    for _ in 0..15 {
+        assert_eq!(store.mark(), Ok(()));
+    }
+    assert_eq!(store.mark(), Err(Refusal::Frames));
+    assert_eq!(store.advance(1), Ok(()));
+    assert_eq!(store.mark(), Ok(()));
+}
+
+/// The largest settings, the smallest after them, and back.
+#[test]
+fn reset_takes_memory_of_the_right_size() {
+    let mut store = Store::new(8, 16, 1).unwrap();
+    store.write(1, 0, 7).unwrap();
+    store.reset(4096, 256, 4096).unwrap();
+    assert_eq!(store.settings(), (4096, 256, 4096));
+    assert_eq!(store.read(1, 0), reading(0, Origin::Archive));
+    assert_eq!(store.write(4, 16 * 4096 - 4, u32::MAX), Ok(()));
+    store.reset(8, 16, 1).unwrap();
+    assert_eq!(store.counts(), Ok(Counts { live: 1, pages: 0 }));
+    assert_eq!(store.read(4, 16 * 4096 - 4), Err(Refusal::Range));
+    // the same settings again: the same memory, all zero
+    store.write(1, 0, 7).unwrap();
+    store.reset(8, 16, 1).unwrap();
+    assert_eq!(store.read(1, 0), reading(0, Origin::Archive));
+}
+
+#[test]
+fn refused_reset_leaves_the_store() {
+    let mut store = Store::new(8, 16, 1).unwrap();
+    store.write(1, 0, 7).unwrap();
+    for (lines, frames, pages) in [
+        (0, 16, 1),
+        (8, 272, 1),
+        (8, 16, 4097),
+        (u32::MAX, u32::MAX, u32::MAX),
+    ] {
+        assert_eq!(store.reset(lines, frames, pages), Err(Refusal::Settings));
+    }
+    assert_eq!(store.settings(), (8, 16, 1));
+    assert_eq!(store.read(1, 0), reading(7, Origin::Cache));
+}
+
+/// LINE changes nothing: the line is not in the cache afterwards.
+#[test]
+fn line_is_not_a_use() {
+    let mut store = Store::new(8, 16, 1).unwrap();
+    assert_eq!(store.line(3), Ok([0; 16]));
+    assert_eq!(store.read(1, 48), reading(0, Origin::Archive));
+    assert_eq!(store.read(1, 48), reading(0, Origin::Cache));
+}
+
+#[test]
+fn a_clone_goes_its_own_way() {
+    let mut one = Store::new(8, 16, 1).unwrap();
+    let mut other = one.clone();
+    one.write(1, 0, 1).unwrap();
+    other.write(1, 0, 2).unwrap();
+    assert_eq!(one.read(1, 0), reading(1, Origin::Cache));
+    assert_eq!(other.read(1, 0), reading(2, Origin::Cache));
+}
+
+#[test]
+fn refusals_have_their_numbers() {
+    for number in 0..100 {
+        let refusal = Refusal::from_number(number);
+        assert_eq!(refusal.number(), number);
+        let is_known = (4..=13).contains(&number);
+        assert_eq!(matches!(refusal, Refusal::Unknown(_)), !is_known);
+        assert!(!refusal.to_string().is_empty());
+    }
+    let error: Box<dyn std::error::Error> = Box::new(Refusal::Pages);
+    assert!(error.to_string().contains("P pages are needed already"));
+}
+
+#[test]
+fn a_store_can_go_to_another_thread() {
+    fn may_go<T: Send + Sync>(value: T) -> T {
+        value
+    }
+    let mut store = may_go(Store::new(8, 16, 1).unwrap());
+    let there = std::thread::spawn(move || store.read(1, 0)).join();
+    assert_eq!(there.unwrap(), reading(0, Origin::Archive));
+    let shown = format!("{:?}", Store::new(8, 16, 1).unwrap());
+    assert!(shown.contains("lines: 8") && shown.len() < 100);
+}

@@ -12,7 +12,7 @@ use lib.ListN.{getD, List·getD-eq-default}
 use Rattle.rules.specs.Figure3.{unlessGone, forget}
 use Rattle.rules.proofs.Tests.{both-true}
 use Rattle.cache.specs.declared.Cache.{Cache}
-use Rattle.cache.specs.Entries.{Sized, lineOf, frameOf, isValid, bytesOf, All}
+use Rattle.cache.specs.Entries.{Sized, lineOf, frameOf, isValid, bytesOf, All, bytesIn, isValidIn}
 use Rattle.cache.specs.Steps.{isDropped, flagAfter, forgotten, frameAfter, collected}
 use Rattle.cache.specs.Shown.{lineIn, shown}
 use Rattle.frames.proofs.Lists.{rewrite-length, rewrite-past, rewrite-at}
@@ -33,7 +33,7 @@ module _ (c : Cache) (s : Sized c) (omf frames n : ℕ) where
 
   -- exactly the entries with a dropped frame become invalid
   pub forgotten-valid : (e : ℕ) → isValid (forgotten c omf frames n) e ≡ (isValid c e && not (isDropped omf frames n (frameOf c e)))
-  unfolding forgotten isValid flagAfter
+  unfolding forgotten isValidIn flagAfter
   forgotten-valid e = go (decLt e 32)
     where
       flag : (b : Bool) (x : ℕ) → eqb (cond b 0 x) 1 ≡ (eqb x 1 && not b)
@@ -74,7 +74,7 @@ module _ (c : Cache) (s : Sized c) (omf frames n : ℕ) where
 
   pub forgotten-all : (R Q : ℕ → ℕ → List ℕ → Type 0) → All R c
       → ((m g : ℕ) (b : List ℕ) → isDropped omf frames n g ≡ false → R m g b → Q m g b) → All Q (forgotten c omf frames n)
-  unfolding forgotten bytesOf
+  unfolding forgotten bytesIn
   forgotten-all R Q all kept e v =
       let both : (isValid c e ≡ true) × (not (isDropped omf frames n (frameOf c e)) ≡ true)
       = both-true (isValid c e) (not (isDropped omf frames n (frameOf c e))) (sym (forgotten-valid e) ∙ v) in
@@ -92,7 +92,7 @@ module _ (c : Cache) (s : Sized c) (omf frames n : ℕ) where
       }
 
   pub collected-shown : shown (collected c omf frames n) ≡ shown c
-  unfolding shown lineIn isValid collected
+  unfolding shown lineIn isValidIn collected
   collected-shown = refl
 
   pub collected-frame : (e : ℕ) → e < 32 → frameOf (collected c omf frames n) e ≡ frameAfter omf frames n (frameOf c e)
@@ -102,7 +102,7 @@ module _ (c : Cache) (s : Sized c) (omf frames n : ℕ) where
 
   pub collected-all : (R Q : ℕ → ℕ → List ℕ → Type 0) → All R c
       → ((m g : ℕ) (b : List ℕ) → R m g b → Q m (frameAfter omf frames n g) b) → All Q (collected c omf frames n)
-  unfolding collected bytesOf isValid
+  unfolding collected bytesIn isValidIn
   collected-all R Q all kept e v =
       carried Q refl (sym (collected-frame e (valid-below c e s v))) refl
       (kept (lineOf c e) (frameOf c e) (bytesOf c e) (all e v))

@@ -1,4 +1,5 @@
 -- `found` and the way taken, seen as Figure 3's cache. Assumes nothing.
+use mathlib.Core.List.{List, []}
 use mathlib.Core.Path.{_≡_, refl, sym, _∙_, ap, ap₂, subst}
 use mathlib.Core.Bool.{Bool, true, false, cond, not, _&&_, _||_, false≢true}
 use mathlib.Core.Option.{Option, none, some}
@@ -15,13 +16,13 @@ use Rattle.rules.proofs.Tests.{both-true}
 use Rattle.cache.specs.declared.Cache.{Cache}
 use Rattle.cache.specs.declared.Entry.{Entry}
 use Rattle.cache.specs.declared.Entry.the-variants.{Hit, Miss}
-use Rattle.cache.specs.Entries.{Sized, lineOf, isValid, home, isAt, found, isHit, wayTaken, entryTaken, FoundAt}
+use Rattle.cache.specs.Entries.{Sized, lineOf, isValid, home, isAt, found, isHit, wayTaken, entryTaken, FoundAt, foundIn, isAtIn, isValidIn, wayIn}
 use Rattle.cache.specs.Shown.{lineIn, wayOf, shown}
 use Rattle.cache.proofs.Returns.{at-line, found-first, found-second, found-none, taken-first, taken-second}
 
 -- only the 32 entries are valid
 pub valid-below : (c : Cache) (e : ℕ) → Sized c → isValid c e ≡ true → e < 32
-unfolding isValid
+unfolding isValidIn
 valid-below c e s h =
     elim (decLt e 32) [
       | yes b ↦ b
@@ -31,7 +32,7 @@ valid-below c e s h =
 module _ (c : Cache) (e l : ℕ) where
   -- an entry holds a line as the way of Figure 3 does
   pub in-at : isIn l (lineIn c e) ≡ isAt c e l
-  unfolding isIn lineIn isAt
+  unfolding isIn lineIn isAtIn
   in-at = go (isValid c e)
     where
       go : (b : Bool) → isIn l (cond b (some (lineOf c e)) none) ≡ (b && eqb l (lineOf c e))
@@ -39,15 +40,15 @@ module _ (c : Cache) (e l : ℕ) where
       go false = refl
 
   pub at-valid : isAt c e l ≡ true → isValid c e ≡ true
-  unfolding isAt
+  unfolding isAtIn
   at-valid h = both-true (isValid c e) (eqb l (lineOf c e)) h .0
 
   pub at-line-is : isAt c e l ≡ true → lineOf c e ≡ l
-  unfolding isAt
+  unfolding isAtIn
   at-line-is h = sym (eqb-true l (lineOf c e) (both-true (isValid c e) (eqb l (lineOf c e)) h .1))
 
   pub at-is : isValid c e ≡ true → lineOf c e ≡ l → isAt c e l ≡ true
-  at-is v h = sym (at-line c e l true (sym v) refl h)
+  at-is v h = sym (at-line (c .lines) (c .valid) e l true (sym v) refl h)
 
 pub free-at : (c : Cache) (e : ℕ) → isFree (lineIn c e) ≡ not (isValid c e)
 unfolding isFree lineIn
@@ -63,7 +64,7 @@ cond-below false x y h k = k
 
 module _ (c : Cache) (l : ℕ) where
   pub way-below : wayTaken c l < 2
-  unfolding wayTaken
+  unfolding wayIn
   way-below =
       cond-below (isAt c (home l) l) 0 _ (omega arith)
       (cond-below (isAt c (home l + 1) l) 1 _ (omega arith)
@@ -76,7 +77,7 @@ module _ (c : Cache) (l : ℕ) where
 
   -- `find` hits exactly where Figure 3's cache holds the line
   pub hit-shown : isHit (found c l) ≡ holds (shown c) l
-  unfolding isHit found holds shown
+  unfolding isHit foundIn holds shown
   hit-shown =
       go (isAt c (home l) l) (isAt c (home l + 1) l)
       ∙ ap₂ (λ (y z : Bool). y || z) (sym (in-at c (home l) l)) (sym (in-at c (home l + 1) l))
@@ -88,7 +89,7 @@ module _ (c : Cache) (l : ℕ) where
 
   -- and takes the way that Figure 3's does
   pub way-shown : wayFor l (shown c (setOf l)) ≡ wayOf (wayTaken c l)
-  unfolding wayFor shown wayTaken wayOf otherWay
+  unfolding wayFor shown wayIn wayOf otherWay
   way-shown =
       rw (in-at c (home l) l, in-at c (home l + 1) l, free-at c (home l), free-at c (home l + 1))
       (go (isAt c (home l) l) (isAt c (home l + 1) l) (not (isValid c (home l))) (not (isValid c (home l + 1))) (eqb (getD (c .last) (setOf l) 0) 0))
@@ -119,19 +120,15 @@ module _ (c : Cache) (l : ℕ) where
 
       go : (a b : Bool) → isAt c (home l) l ≡ a → isAt c (home l + 1) l ≡ b → FoundAt c l e
       go true b p q =
-          let d : home l ≡ e = cc (found-first c l (isAt c (home l) l) refl p) in
-          is (subst (λ (x : ℕ). isAt c x l ≡ true) d p) (omega (arith, d, taken-first c l (isAt c (home l) l) refl p))
+          let d : home l ≡ e = cc (found-first (c .lines) (c .valid) l (isAt c (home l) l) refl p) in
+          is (subst (λ (x : ℕ). isAt c x l ≡ true) d p) (omega (arith, d, taken-first (c .lines) (c .valid) (c .last) l (isAt c (home l) l) refl p))
       go false true p q =
-          let d : home l + 1 ≡ e = cc (found-second c l (isAt c (home l) l) refl p (isAt c (home l + 1) l) refl q) in
+          let d : home l + 1 ≡ e = cc (found-second (c .lines) (c .valid) l (isAt c (home l) l) refl p (isAt c (home l + 1) l) refl q) in
           is (subst (λ (x : ℕ). isAt c x l ≡ true) d q)
-          (omega (arith, d, taken-second c l (isAt c (home l) l) refl p (isAt c (home l + 1) l) refl q))
+          (omega (arith, d, taken-second (c .lines) (c .valid) (c .last) l (isAt c (home l) l) refl p (isAt c (home l + 1) l) refl q))
       go false false p q =
-          let z : _≡_ {A = ℕ} 0 1 = cc (found-none c l (isAt c (home l) l) refl p (isAt c (home l + 1) l) refl q) in
+          let z : _≡_ {A = ℕ} 0 1 = cc (found-none (c .lines) (c .valid) l (isAt c (home l) l) refl p (isAt c (home l + 1) l) refl q) in
           absurd (omega arith)
-
-  -- so a hit may be read, in the form in which a caller of `find` has it
-  pub found-below : (r : Entry) (e : ℕ) → r ≡ found c l → r ≡ Hit e → e < 32
-  found-below r e d h = found-at e (sym d ∙ h) .below
 
   -- In a cache with each line in its set and once, a valid entry that holds the line is the one that a use of it takes.
   pub line-taken : (s : Settings) (e : ℕ) → WellCache s (shown c) → isValid c e ≡ true → lineOf c e ≡ l → e ≡ entryTaken c l
@@ -149,7 +146,7 @@ module _ (c : Cache) (l : ℕ) where
           let here : home l ≡ e = omega arith in
           omega (
             arith,
-            taken-first c l (isAt c (home l) l) refl (subst (λ (x : ℕ). isAt c x l ≡ true) (sym here) (at-is c e l v h)),
+            taken-first (c .lines) (c .valid) (c .last) l (isAt c (home l) l) refl (subst (λ (x : ℕ). isAt c x l ≡ true) (sym here) (at-is c e l v h)),
           )
       go (no d) =
           let set : setOf l ≡ e / 2 = q .second (e / 2) l (in-way (2 * (e / 2) + 1) (omega arith)) .0 in
@@ -164,4 +161,9 @@ module _ (c : Cache) (l : ℕ) where
               (ap (λ (b : Bool). cond b (some (lineOf c (home l))) none) (at-valid c (home l) l p) ∙ ap {B = Option ℕ} some (at-line-is c (home l) l p))
               (in-way (home l + 1) here))
           other false p own here =
-              omega (arith, here, taken-second c l (isAt c (home l) l) refl p (isAt c (home l + 1) l) refl own)
+              omega (arith, here, taken-second (c .lines) (c .valid) (c .last) l (isAt c (home l) l) refl p (isAt c (home l + 1) l) refl own)
+
+-- A hit may be read, in the form in which a caller of `find` has it.
+pub found-below : (lines valid : List ℕ) (l : ℕ) (r : Entry) (e : ℕ) → r ≡ foundIn lines valid l → r ≡ Hit e → e < 32
+found-below lines valid l r e d h =
+    found-at (record { lines = lines; frames = []; valid = valid; bytes = []; last = [] }) l e (sym d ∙ h) .below

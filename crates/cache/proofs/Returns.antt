@@ -11,73 +11,76 @@ use Rattle.rules.specs.Figure3.{setOf}
 use Rattle.frames.specs.Circle.{indexOf}
 use Rattle.cache.specs.declared.Cache.{Cache}
 use Rattle.cache.specs.declared.Entry.the-variants.{Hit, Miss}
-use Rattle.cache.specs.Entries.{lineOf, frameOf, isValid, isAt, home, found, wayTaken}
+use Rattle.cache.specs.Entries.{frameOf, home, wayTaken, foundIn, isAtIn, isValidIn, wayIn}
 use Rattle.frames.specs.Lists.{rewrite}
 use Rattle.frames.specs.Lines.{pasteLine}
 use Rattle.cache.specs.Steps.{archiveFrame, placed, isBelow, isDropped, flagAfter, forgotten, frameAfter, collected}
 
-module _ (c : Cache) (e : ℕ) where
-  pub valid-one : getD (c .valid) e 0 ≡ 1 → true ≡ isValid c e
-  unfolding isValid
-  valid-one h = sym (eq-eqb (getD (c .valid) e 0) 1 h)
+module _ (valid : List ℕ) (e : ℕ) where
+  pub valid-one : getD valid e 0 ≡ 1 → true ≡ isValidIn valid e
+  unfolding isValidIn
+  valid-one h = sym (eq-eqb (getD valid e 0) 1 h)
 
-  pub valid-other : (getD (c .valid) e 0 ≡ 1 → ⊥) → false ≡ isValid c e
-  unfolding isValid
-  valid-other h = sym (ne-eqb (getD (c .valid) e 0) 1 h)
+  pub valid-other : (getD valid e 0 ≡ 1 → ⊥) → false ≡ isValidIn valid e
+  unfolding isValidIn
+  valid-other h = sym (ne-eqb (getD valid e 0) 1 h)
 
-  pub at-invalid : (l : ℕ) (b : Bool) → b ≡ isValid c e → not b ≡ true → false ≡ isAt c e l
-  unfolding isAt
-  at-invalid l b d t = sym (ap (λ (z : Bool). z && eqb l (lineOf c e)) (sym d ∙ not-true b t))
+module _ (lines valid : List ℕ) (e : ℕ) where
+  pub at-invalid : (l : ℕ) (b : Bool) → b ≡ isValidIn valid e → not b ≡ true → false ≡ isAtIn lines valid e l
+  unfolding isAtIn
+  at-invalid l b d t = sym (ap (λ (z : Bool). z && eqb l (getD lines e 0)) (sym d ∙ not-true b t))
 
-  pub at-line : (l : ℕ) (b : Bool) → b ≡ isValid c e → not b ≡ false → lineOf c e ≡ l → true ≡ isAt c e l
-  unfolding isAt
-  at-line l b d t h = sym (ap₂ (λ (y z : Bool). y && z) (sym d ∙ not-false b t) (eq-eqb l (lineOf c e) (sym h)))
+  pub at-line : (l : ℕ) (b : Bool) → b ≡ isValidIn valid e → not b ≡ false → getD lines e 0 ≡ l → true ≡ isAtIn lines valid e l
+  unfolding isAtIn
+  at-line l b d t h = sym (ap₂ (λ (y z : Bool). y && z) (sym d ∙ not-false b t) (eq-eqb l (getD lines e 0) (sym h)))
 
-  pub at-other : (l : ℕ) → (lineOf c e ≡ l → ⊥) → false ≡ isAt c e l
-  unfolding isAt
-  at-other l h = sym (ap (λ (z : Bool). isValid c e && z) (ne-eqb l (lineOf c e) (λ d. h (sym d))) ∙ and-false (isValid c e))
+  pub at-other : (l : ℕ) → (getD lines e 0 ≡ l → ⊥) → false ≡ isAtIn lines valid e l
+  unfolding isAtIn
+  at-other l h = sym (ap (λ (z : Bool). isValidIn valid e && z) (ne-eqb l (getD lines e 0) (λ d. h (sym d))) ∙ and-false (isValidIn valid e))
 
-module _ (c : Cache) (l : ℕ) (b : Bool) (first : b ≡ isAt c (home l) l) where
-  pub found-first : b ≡ true → Hit (home l) ≡ found c l
-  unfolding found
+module _ (lines valid : List ℕ) (l : ℕ) (b : Bool) (first : b ≡ isAtIn lines valid (home l) l) where
+  pub found-first : b ≡ true → Hit (home l) ≡ foundIn lines valid l
+  unfolding foundIn
   found-first t = rw (sym first ∙ t)
 
-  pub taken-first : b ≡ true → 0 ≡ wayTaken c l
-  unfolding wayTaken
-  taken-first t = rw (sym first ∙ t)
-
-  module _ (f : b ≡ false) (d : Bool) (second : d ≡ isAt c (home l + 1) l) where
-    pub found-second : d ≡ true → Hit (home l + 1) ≡ found c l
-    unfolding found
+  module _ (f : b ≡ false) (d : Bool) (second : d ≡ isAtIn lines valid (home l + 1) l) where
+    pub found-second : d ≡ true → Hit (home l + 1) ≡ foundIn lines valid l
+    unfolding foundIn
     found-second t = rw (sym first ∙ f, sym second ∙ t)
 
-    pub found-none : d ≡ false → Miss ≡ found c l
-    unfolding found
+    pub found-none : d ≡ false → Miss ≡ foundIn lines valid l
+    unfolding foundIn
     found-none g = rw (sym first ∙ f, sym second ∙ g)
 
-    pub taken-second : d ≡ true → 1 ≡ wayTaken c l
-    unfolding wayTaken
+module _ (lines valid last : List ℕ) (l : ℕ) (b : Bool) (first : b ≡ isAtIn lines valid (home l) l) where
+  pub taken-first : b ≡ true → 0 ≡ wayIn lines valid last l
+  unfolding wayIn
+  taken-first t = rw (sym first ∙ t)
+
+  module _ (f : b ≡ false) (d : Bool) (second : d ≡ isAtIn lines valid (home l + 1) l) where
+    pub taken-second : d ≡ true → 1 ≡ wayIn lines valid last l
+    unfolding wayIn
     taken-second t = rw (sym first ∙ f, sym second ∙ t)
 
-    module _ (g : d ≡ false) (v : Bool) (valid0 : v ≡ isValid c (home l)) where
-      pub taken-free0 : not v ≡ true → 0 ≡ wayTaken c l
-      unfolding wayTaken
+    module _ (g : d ≡ false) (v : Bool) (valid0 : v ≡ isValidIn valid (home l)) where
+      pub taken-free0 : not v ≡ true → 0 ≡ wayIn lines valid last l
+      unfolding wayIn
       taken-free0 n = rw (sym first ∙ f, sym second ∙ g, sym valid0 ∙ not-true v n)
 
-      module _ (p : not v ≡ false) (w : Bool) (valid1 : w ≡ isValid c (home l + 1)) where
-        pub taken-free1 : not w ≡ true → 1 ≡ wayTaken c l
-        unfolding wayTaken
+      module _ (p : not v ≡ false) (w : Bool) (valid1 : w ≡ isValidIn valid (home l + 1)) where
+        pub taken-free1 : not w ≡ true → 1 ≡ wayIn lines valid last l
+        unfolding wayIn
         taken-free1 n = rw (sym first ∙ f, sym second ∙ g, sym valid0 ∙ not-false v p, sym valid1 ∙ not-true w n)
 
-        pub taken-older1 : not w ≡ false → getD (c .last) (setOf l) 0 ≡ 0 → 1 ≡ wayTaken c l
-        unfolding wayTaken
+        pub taken-older1 : not w ≡ false → getD last (setOf l) 0 ≡ 0 → 1 ≡ wayIn lines valid last l
+        unfolding wayIn
         taken-older1 q n =
-            rw (sym first ∙ f, sym second ∙ g, sym valid0 ∙ not-false v p, sym valid1 ∙ not-false w q, eq-eqb (getD (c .last) (setOf l) 0) 0 n)
+            rw (sym first ∙ f, sym second ∙ g, sym valid0 ∙ not-false v p, sym valid1 ∙ not-false w q, eq-eqb (getD last (setOf l) 0) 0 n)
 
-        pub taken-older0 : not w ≡ false → (getD (c .last) (setOf l) 0 ≡ 0 → ⊥) → 0 ≡ wayTaken c l
-        unfolding wayTaken
+        pub taken-older0 : not w ≡ false → (getD last (setOf l) 0 ≡ 0 → ⊥) → 0 ≡ wayIn lines valid last l
+        unfolding wayIn
         taken-older0 q n =
-            rw (sym first ∙ f, sym second ∙ g, sym valid0 ∙ not-false v p, sym valid1 ∙ not-false w q, ne-eqb (getD (c .last) (setOf l) 0) 0 n)
+            rw (sym first ∙ f, sym second ∙ g, sym valid0 ∙ not-false v p, sym valid1 ∙ not-false w q, ne-eqb (getD last (setOf l) 0) 0 n)
 
 module _ (omf frames n frame : ℕ) where
   pub off-circle : frames ≤ frame → false ≡ isBelow omf frames n frame
@@ -119,19 +122,13 @@ module _ (omf frames n frame : ℕ) where
 pub entry-room : (bytes : List ℕ) (entry : ℕ) → length bytes ≡ 512 → entry < 32 → 16 * entry + 16 ≤ length bytes
 entry-room bytes entry long h = omega arith
 
--- the struct that `place` builds
-pub placed-done : (c : Cache) (line frame way : ℕ) (content bytes : List ℕ) → (way ≡ wayTaken c line) × (way < 2)
-    → bytes ≡ pasteLine (c .bytes) (16 * (home line + way)) content
-    → record {
-      lines = set (c .lines) (home line + way) line;
-      frames = set (c .frames) (home line + way) frame;
-      valid = set (c .valid) (home line + way) 1;
-      bytes = bytes;
-      last = set (c .last) (setOf line) way;
-    }
-    ≡ placed c line frame content
+-- the arrays after a use of a line
+pub placed-done : (c : Cache) (line frame way : ℕ) (content lines frames valid bytes last : List ℕ) → (way ≡ wayTaken c line) × (way < 2)
+    → lines ≡ set (c .lines) (home line + way) line → frames ≡ set (c .frames) (home line + way) frame → valid ≡ set (c .valid) (home line + way) 1
+    → bytes ≡ pasteLine (c .bytes) (16 * (home line + way)) content → last ≡ set (c .last) (setOf line) way
+    → record { lines = lines; frames = frames; valid = valid; bytes = bytes; last = last } ≡ placed c line frame content
 unfolding placed
-placed-done c line frame way content bytes w e = cc (w .0)
+placed-done c line frame way content lines frames valid bytes last w el ef ev eb ea = cc (w .0, el, ef, ev, eb, ea)
 
 -- the loops' ends
 module _ (c : Cache) (omf frames n i : ℕ) (now : List ℕ) (most : i ≤ 32) (least : 32 ≤ i) where

@@ -17,7 +17,7 @@ use Rattle.rules.specs.Figure3 as figure
 use Rattle.rules.specs.Figure3.{Way, Ways, WellCache, setOf, emptyCache, use-line, wayFor}
 use Rattle.cache.specs.declared.Cache.{Cache}
 use Rattle.cache.specs.declared.Entry.the-variants.{Hit}
-use Rattle.cache.specs.Entries.{Sized, lineOf, frameOf, isValid, bytesOf, home, isAt, found, wayTaken, entryTaken, Has, SameAt, All}
+use Rattle.cache.specs.Entries.{Sized, lineOf, frameOf, isValid, bytesOf, home, isAt, found, wayTaken, entryTaken, Has, SameAt, All, bytesIn, isAtIn, isValidIn}
 use Rattle.cache.specs.Steps.{emptied, placed}
 use Rattle.cache.specs.Shown.{lineIn, wayOf, shown}
 use Rattle.frames.proofs.Lines.{length-written, read-own, read-other, apart}
@@ -49,7 +49,7 @@ module _ (c : Cache) (s : Sized c) (l f : ℕ) (bytes : List ℕ) (n : length by
 
   -- the entry taken has the line, the frame and the bytes
   pub placed-has : Has (placed c l f bytes) (entryTaken c l) l f bytes
-  unfolding placed isValid bytesOf
+  unfolding placed isValidIn bytesIn
   placed-has =
       record {
         valid =
@@ -61,7 +61,7 @@ module _ (c : Cache) (s : Sized c) (l f : ℕ) (bytes : List ℕ) (n : length by
 
   -- and every other entry what it had
   pub placed-same : (e : ℕ) → e ≢ entryTaken c l → SameAt e (placed c l f bytes) c
-  unfolding placed isValid bytesOf
+  unfolding placed isValidIn bytesIn
   placed-same e d =
       record {
         valid = ap (λ (x : ℕ). eqb x 1) (getD-set-other (c .valid) (entryTaken c l) e 1 0 d);
@@ -82,7 +82,7 @@ module _ (c : Cache) (s : Sized c) (l f : ℕ) (bytes : List ℕ) (n : length by
       ap₂ (λ (b : Bool) (x : ℕ). cond b (some x) none) (placed-same e d .valid) (placed-same e d .line)
 
   at-same : (e : ℕ) → e ≢ entryTaken c l → isAt (placed c l f bytes) e l ≡ isAt c e l
-  unfolding isAt
+  unfolding isAtIn
   at-same e d = ap₂ (λ (b : Bool) (x : ℕ). b && eqb l x) (placed-same e d .valid) (placed-same e d .line)
 
   -- a use is Figure 3's
@@ -118,7 +118,7 @@ module _ (c : Cache) (s : Sized c) (l f : ℕ) (bytes : List ℕ) (n : length by
   own-at = at-is (placed c l f bytes) (entryTaken c l) l (placed-has .valid) (placed-has .line-is)
 
   not-first : (b : Bool) → isAt c (home l) l ≡ b → wayTaken c l ≡ 1 → b ≡ false
-  not-first true e p = absurd (omega (arith, p, taken-first c l (isAt c (home l) l) refl e))
+  not-first true e p = absurd (omega (arith, p, taken-first (c .lines) (c .valid) (c .last) l (isAt c (home l) l) refl e))
   not-first false e p = refl
 
   pub placed-found : found (placed c l f bytes) l ≡ Hit (entryTaken c l)
@@ -127,11 +127,11 @@ module _ (c : Cache) (s : Sized c) (l f : ℕ) (bytes : List ℕ) (n : length by
       go : (w : ℕ) → wayTaken c l ≡ w → w < 2 → found (placed c l f bytes) l ≡ Hit (entryTaken c l)
       go zero p b =
           let d : entryTaken c l ≡ home l = omega arith in
-          sym (found-first (placed c l f bytes) l (isAt (placed c l f bytes) (home l) l) refl (subst (λ (e : ℕ). isAt (placed c l f bytes) e l ≡ true) d own-at))
+          sym (found-first (placed c l f bytes .lines) (placed c l f bytes .valid) l (isAt (placed c l f bytes) (home l) l) refl (subst (λ (e : ℕ). isAt (placed c l f bytes) e l ≡ true) d own-at))
           ∙ ap Hit (sym d)
       go (suc zero) p b =
           let d : entryTaken c l ≡ home l + 1 = omega arith in
-          sym (found-second (placed c l f bytes) l (isAt (placed c l f bytes) (home l) l) refl
+          sym (found-second (placed c l f bytes .lines) (placed c l f bytes .valid) l (isAt (placed c l f bytes) (home l) l) refl
           (at-same (home l) (λ q. omega (arith, q)) ∙ not-first (isAt c (home l) l) refl p)
           (isAt (placed c l f bytes) (home l + 1) l) refl (subst (λ (e : ℕ). isAt (placed c l f bytes) e l ≡ true) d own-at))
           ∙ ap Hit (sym d)
@@ -159,7 +159,7 @@ zeros (suc n) zero = refl
 zeros (suc n) (suc e) = zeros n e
 
 none-valid : (e : ℕ) → isValid emptied e ≡ false
-unfolding emptied isValid
+unfolding emptied isValidIn
 none-valid e = ap (λ (x : ℕ). eqb x 1) (zeros 32 e)
 
 pub empty-shown : shown emptied ≡ emptyCache

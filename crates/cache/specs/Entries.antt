@@ -26,22 +26,35 @@ lineOf c e = getD (c .lines) e 0
 abbrev pub frameOf : Cache → ℕ → ℕ
 frameOf c e = getD (c .frames) e 0
 
-unfoldable pub isValid : Cache → ℕ → Bool
-isValid c e = eqb (getD (c .valid) e 0) 1
+unfoldable pub isValidIn : (valid : List ℕ) → ℕ → Bool
+isValidIn valid e = eqb (getD valid e 0) 1
 
-unfoldable pub bytesOf : Cache → ℕ → List ℕ
-bytesOf c e = lineAt (c .bytes) (16 * e)
+abbrev pub isValid : Cache → ℕ → Bool
+isValid c e = isValidIn (c .valid) e
+
+unfoldable pub bytesIn : (bytes : List ℕ) → ℕ → List ℕ
+bytesIn bytes e = lineAt bytes (16 * e)
+
+abbrev pub bytesOf : Cache → ℕ → List ℕ
+bytesOf c e = bytesIn (c .bytes) e
 
 -- The entry of way 0 of a line's set. That of way 1 is the next.
 abbrev pub home : ℕ → ℕ
 home l = 2 * setOf l
 
-unfoldable pub isAt : Cache → ℕ → ℕ → Bool
-isAt c e l = isValid c e && eqb l (lineOf c e)
+unfoldable pub isAtIn : (lines valid : List ℕ) → (entry line : ℕ) → Bool
+isAtIn lines valid e l = isValidIn valid e && eqb l (getD lines e 0)
+
+abbrev pub isAt : Cache → ℕ → ℕ → Bool
+isAt c e l = isAtIn (c .lines) (c .valid) e l
 
 -- The entry that holds a line.
-unfoldable pub found : Cache → ℕ → Entry
-found c l = cond (isAt c (home l) l) (Hit (home l)) (cond (isAt c (home l + 1) l) (Hit (home l + 1)) Miss)
+unfoldable pub foundIn : (lines valid : List ℕ) → ℕ → Entry
+foundIn lines valid l =
+    cond (isAtIn lines valid (home l) l) (Hit (home l)) (cond (isAtIn lines valid (home l + 1) l) (Hit (home l + 1)) Miss)
+
+abbrev pub found : Cache → ℕ → Entry
+found c l = foundIn (c .lines) (c .valid) l
 
 unfoldable pub isHit : Entry → Bool
 isHit (Hit e) = true
@@ -49,13 +62,16 @@ isHit Miss = false
 
 -- The way that a use of a line takes: its own at a hit; "A miss, of a read or a write, takes way 0 if it is invalid, else way
 -- 1 if that is invalid, else the less recently used way".
-unfoldable pub wayTaken : Cache → ℕ → ℕ
-wayTaken c l =
-    cond (isAt c (home l) l) 0
-    (cond (isAt c (home l + 1) l) 1
-    (cond (not (isValid c (home l))) 0
-    (cond (not (isValid c (home l + 1))) 1
-    (cond (eqb (getD (c .last) (setOf l) 0) 0) 1 0))))
+unfoldable pub wayIn : (lines valid last : List ℕ) → ℕ → ℕ
+wayIn lines valid last l =
+    cond (isAtIn lines valid (home l) l) 0
+    (cond (isAtIn lines valid (home l + 1) l) 1
+    (cond (not (isValidIn valid (home l))) 0
+    (cond (not (isValidIn valid (home l + 1))) 1
+    (cond (eqb (getD last (setOf l) 0) 0) 1 0))))
+
+abbrev pub wayTaken : Cache → ℕ → ℕ
+wayTaken c l = wayIn (c .lines) (c .valid) (c .last) l
 
 -- and its entry.
 abbrev pub entryTaken : Cache → ℕ → ℕ

@@ -2,11 +2,13 @@
 // The functions with a `requires` are called by our own crates alone, which test what it asks.
 ghost use mathlib.Core.Path.{_≡_};
 ghost use Prim.Native.Nat.{_*_, _<_};
-ghost use Rattle.rules.specs.Figure3.{emptyCache, use-line, holds};
+ghost use lib.ListN;
+ghost use lib.ListN.{length, getD};
+ghost use Rattle.rules.specs.Figure3.{emptyCache};
 ghost use Rattle.frames.specs.Circle.{Turn};
 ghost use Rattle.frames.specs.Lines.{pasteLine};
-ghost use Rattle.cache.specs.Entries.{frameOf, isValid, bytesOf, isAt, found, isHit, wayTaken};
-ghost use Rattle.cache.specs.Steps.{emptied, placed, isBelow, flagAfter, forgotten, frameAfter, collected};
+ghost use Rattle.cache.specs.Entries.{isValidIn, bytesIn, bytesOf, isAtIn, foundIn, wayIn};
+ghost use Rattle.cache.specs.Steps.{emptied, isBelow, flagAfter, forgotten, frameAfter, collected};
 ghost use Rattle.cache.specs.Shown.{shown, Forgets};
 
 // The entry of a set's way is 2 * set + way.
@@ -51,80 +53,79 @@ pub fn empty() -> Cache
 }
 
 // Whether an entry is valid.
-fn is_valid(cache: Cache, entry: u32) -> bool
+fn is_valid(valid: &[u8; 32], entry: u32) -> bool
     requires { ⌜ entry < 32 ⌝ }
-    ensures { λ r. ⌜ r ≡ isValid cache entry ⌝ }
+    ensures { λ r. ⌜ r ≡ isValidIn (now (valid .entry)) entry ⌝ }
 {
     let at = entry as usize;
-    if cache.valid[at] == 1 {
+    if valid[at] == 1 {
         return true;
     }
     false
 }
 
 // Whether an entry is valid and holds the line.
-fn is_at(cache: Cache, entry: u32, line: u32) -> bool
+fn is_at<'a>(lines: &'a [u32; 32], valid: &'a [u8; 32], entry: u32, line: u32) -> bool
     requires { ⌜ entry < 32 ⌝ }
-    ensures { λ r. ⌜ r ≡ isAt cache entry line ⌝ }
+    ensures { λ r. ⌜ r ≡ isAtIn (now (lines .entry)) (now (valid .entry)) entry line ⌝ }
 {
-    if !is_valid(cache, entry) {
+    if !is_valid(valid, entry) {
         return false;
     }
     let at = entry as usize;
-    if cache.lines[at] == line {
+    if lines[at] == line {
         return true;
     }
     false
 }
 
 // The entry of the line's set that is valid and holds the line, way 0 first.
-pub fn find(cache: Cache, line: u32) -> Entry
-    ensures { λ r. ⌜ (r ≡ found cache line) × (isHit r ≡ holds (shown cache) line) ⌝ }
+pub fn find<'a>(lines: &'a [u32; 32], valid: &'a [u8; 32], line: u32) -> Entry
+    ensures { λ r. ⌜ r ≡ foundIn (now (lines .entry)) (now (valid .entry)) line ⌝ }
 {
     let first = 2 * (line % 16);
     let second = first + 1;
-    if is_at(cache, first, line) {
+    if is_at(lines, valid, first, line) {
         return Entry::Hit(first);
     }
-    if is_at(cache, second, line) {
+    if is_at(lines, valid, second, line) {
         return Entry::Hit(second);
     }
     Entry::Miss
 }
 
 // The way that a use of a line takes, hit or miss.
-pub fn way_for(cache: Cache, line: u32) -> u32
-    ensures { λ r. ⌜ (r ≡ wayTaken cache line) × (r < 2) ⌝ }
+pub fn way_for<'a>(lines: &'a [u32; 32], valid: &'a [u8; 32], last: &'a [u8; 16], line: u32) -> u32
+    ensures { λ r. ⌜ (r ≡ wayIn (now (lines .entry)) (now (valid .entry)) (now (last .entry)) line) × (r < 2) ⌝ }
 {
     let set = line % 16;
     let first = 2 * set;
     let second = first + 1;
-    if is_at(cache, first, line) {
+    if is_at(lines, valid, first, line) {
         return 0;
     }
-    if is_at(cache, second, line) {
+    if is_at(lines, valid, second, line) {
         return 1;
     }
-    if !is_valid(cache, first) {
+    if !is_valid(valid, first) {
         return 0;
     }
-    if !is_valid(cache, second) {
+    if !is_valid(valid, second) {
         return 1;
     }
     let at = set as usize;
-    if cache.last[at] == 0 {
+    if last[at] == 0 {
         return 1;
     }
     0
 }
 
 // The 16 bytes of an entry.
-pub fn line_at(cache: Cache, entry: u32) -> [u8; 16]
-    requires { ⌜ entry < 32 ⌝ }
-    ensures { λ r. ⌜ r ≡ bytesOf cache entry ⌝ }
+pub fn line_at(bytes: &[u8; 512], entry: u32) -> [u8; 16]
+    requires { ⌜ (entry < 32) × (length (now bytes) ≡ 512) ⌝ }
+    ensures { λ r. ⌜ r ≡ bytesIn (now (bytes .entry)) entry ⌝ }
 {
     let from = 16 * (entry as usize);
-    let bytes = cache.bytes;
     let mut line = [0u8; 16];
     let mut i = 0;
     while i < 16 {
@@ -134,55 +135,70 @@ pub fn line_at(cache: Cache, entry: u32) -> [u8; 16]
     line
 }
 
-// The frame of an entry.
-pub fn frame_of(cache: Cache, entry: u32) -> u16
+// The same of a whole cache.
+pub fn bytes_of(cache: Cache, entry: u32) -> [u8; 16]
     requires { ⌜ entry < 32 ⌝ }
-    ensures { λ r. ⌜ r ≡ frameOf cache entry ⌝ }
+    ensures { λ r. ⌜ r ≡ bytesOf cache entry ⌝ }
+{
+    line_at(&cache.bytes, entry)
+}
+
+// The frame of an entry.
+pub fn frame_of(frames: &[u16; 32], entry: u32) -> u16
+    requires { ⌜ entry < 32 ⌝ }
+    ensures { λ r. ⌜ r ≡ getD (now (frames .entry)) entry 0 ⌝ }
 {
     let at = entry as usize;
-    cache.frames[at]
+    frames[at]
 }
 
-// The bytes of all entries with those of one replaced.
-fn with_line(bytes: [u8; 512], entry: u32, line: [u8; 16]) -> [u8; 512]
+// Gives an entry its line,
+pub fn set_line(lines: &mut [u32; 32], entry: u32, line: u32)
     requires { ⌜ entry < 32 ⌝ }
-    ensures { λ r. ⌜ r ≡ pasteLine bytes (16 * entry) line ⌝ }
+    ensures { λ _. ⌜ now (lines .exit) ≡ ListN.set (now (lines .entry)) entry line ⌝ }
 {
-    let from = 16 * (entry as usize);
-    let mut after = bytes;
-    let mut i = 0;
-    while i < 16 {
-        after[from + i] = line[i];
-        i += 1;
-    }
-    after
-}
-
-// A use of a line, by a read or a write, hit or miss: the way taken holds it with this frame and content, and was used last.
-pub fn place(cache: Cache, line: u32, frame: u16, content: [u8; 16]) -> Cache
-    ensures { λ r. ⌜ (r ≡ placed cache line frame content) × (shown r ≡ use-line line (shown cache)) ⌝ }
-{
-    let way = way_for(cache, line);
-    let set = line % 16;
-    let entry = 2 * set + way;
-    let old = cache.bytes;
-    let bytes = with_line(old, entry, content);
-    let mut lines = cache.lines;
-    let mut frames = cache.frames;
-    let mut valid = cache.valid;
-    let mut last = cache.last;
     let at = entry as usize;
     lines[at] = line;
+}
+
+// the frame of its line's most recent version,
+pub fn set_frame(frames: &mut [u16; 32], entry: u32, frame: u16)
+    requires { ⌜ entry < 32 ⌝ }
+    ensures { λ _. ⌜ now (frames .exit) ≡ ListN.set (now (frames .entry)) entry frame ⌝ }
+{
+    let at = entry as usize;
     frames[at] = frame;
+}
+
+// its valid flag
+pub fn set_valid(valid: &mut [u8; 32], entry: u32)
+    requires { ⌜ entry < 32 ⌝ }
+    ensures { λ _. ⌜ now (valid .exit) ≡ ListN.set (now (valid .entry)) entry 1 ⌝ }
+{
+    let at = entry as usize;
     valid[at] = 1;
-    last[set as usize] = way as u8;
-    Cache {
-        lines,
-        frames,
-        valid,
-        bytes,
-        last,
+}
+
+// and its bytes.
+pub fn set_bytes(bytes: &mut [u8; 512], entry: u32, line: [u8; 16])
+    requires { ⌜ (entry < 32) × (length (now bytes) ≡ 512) ⌝ }
+    ensures { λ _. ⌜ now (bytes .exit) ≡ pasteLine (now (bytes .entry)) (16 * entry) line ⌝ }
+{
+    let from = 16 * (entry as usize);
+    let mut i = 0;
+    while i < 16 {
+        bytes[from + i] = line[i];
+        i += 1;
     }
+}
+
+// Notes the way of a set that was used last.
+pub fn set_last(last: &mut [u8; 16], set: u32, way: u32)
+    requires { ⌜ (set < 16) × (way < 2) ⌝ }
+    ensures { λ _. ⌜ now (last .exit) ≡ ListN.set (now (last .entry)) set way ⌝ }
+{
+    let at = set as usize;
+    last[at] = way as u8;
 }
 
 // Whether a frame number lies on the circle with an index from OMF below n.

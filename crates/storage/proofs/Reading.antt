@@ -31,7 +31,7 @@ use Rattle.cache.specs.Shown.{shown}
 use Rattle.cache.proofs.Hits.{hit-shown, found-at}
 use Rattle.versions.specs.declared.Spot.the-variants.{Page, Archive}
 use Rattle.versions.specs.declared.Version.{Version}
-use Rattle.versions.specs.Newest.{pageOf, spotOf, contentOf, numberOf, backIn, originOf, newestOf, latestFrom, latestOf}
+use Rattle.versions.specs.Newest.{pageOf, spotOf, contentOf, numberOf, backIn, originOf, newestOf, latestFrom, latestHeld, latestOf}
 use Rattle.storage.specs.Storage.{Storage, settingsIn, liveIn, writtenIn, versionAt, frameIn, archiveIn, latestIn, frameNumber, newestFrame, WellStore, store}
 use Rattle.storage.proofs.Limits.{Limits, limits}
 use Rattle.storage.proofs.Counting.{written-effective}
@@ -139,7 +139,7 @@ module _ (x : Storage) (q : WellStore x) (l : ℕ) (b : l < x .state .lines) whe
   pub latest-told : (v : Version) → v ≡ latestOf (x .state .cache) (writtenIn x) (x .state .pages) (liveIn (x .state)) (x .memory .archive) (x .memory .pool) (x .memory .table) l
       → (v .content ≡ latestIn x l) × (v .frame ≡ newestFrame x l)
       × (originOf (v .origin) ≡ cond (holds (shown (x .state .cache)) l) from-cache (seenOf store x .origin l))
-  unfolding latestOf latestFrom originOf isHit
+  unfolding latestHeld latestFrom originOf isHit
   latest-told v e = go (found (x .state .cache) l) refl
     where
       go : (r : Entry) → found (x .state .cache) l ≡ r
@@ -148,13 +148,13 @@ module _ (x : Storage) (q : WellStore x) (l : ℕ) (b : l < x .state .lines) whe
       go (Hit h) d =
           let f = found-at (x .state .cache) l h d in
           let c = q .coherent h (f .valid) in
-          let is = e ∙ ap (latestFrom (x .state .cache) _) d in (
+          let is = e ∙ ap (latestFrom (x .state .cache .frames) (x .state .cache .bytes) _) d in (
             ap (λ (w : Version). w .content) is ∙ (c .0 ∙ ap (latestIn x) (f .line)),
             ap (λ (w : Version). w .frame) is ∙ (c .1 ∙ ap (newestFrame x) (f .line)),
             ap (λ (w : Version). originOf (w .origin)) is ∙ sym (ap (λ (t : Bool). cond t from-cache (seenOf store x .origin l)) (sym (hit-shown (x .state .cache) l) ∙ ap isHit d)),
           )
       go Miss d =
-          let r = newest-told x (well-findable x q) l b v (e ∙ ap (latestFrom (x .state .cache) _) d) in
+          let r = newest-told x (well-findable x q) l b v (e ∙ ap (latestFrom (x .state .cache .frames) (x .state .cache .bytes) _) d) in
           (r .0, r .1, r .2 ∙ sym (ap (λ (t : Bool). cond t from-cache (seenOf store x .origin l)) (sym (hit-shown (x .state .cache) l) ∙ ap isHit d)))
 
   -- It is a line of bytes.

@@ -26,7 +26,6 @@ use Rattle.written.specs.Bits.{Lent}
 use Rattle.written.specs.Steps.{withWritten}
 use Rattle.pages.specs.Lines.{withPageLine}
 use Rattle.pages.specs.Table.{placeAt}
-use Rattle.cache.specs.declared.Cache.{Cache}
 use Rattle.cache.specs.Steps.{placed}
 use Rattle.versions.specs.declared.Version.{Version}
 use Rattle.versions.specs.Newest.{entryPlace, latestOf}
@@ -34,7 +33,7 @@ use Rattle.versions.specs.Steps.{pageFor}
 use Rattle.versions.proofs.Finding.{entry-within}
 use Rattle.storage.specs.declared.State.{State}
 use Rattle.storage.specs.Storage.{Storage, storageOf, memoryOf, settingsIn, lengthsIn, pastIn, liveIn, writtenIn, WellStore, store}
-use Rattle.storage.specs.Steps.{stateWith, usedState, contentAfter, currentPlace, WroteTo, Put, AsksWrite}
+use Rattle.storage.specs.Steps.{usedState, contentAfter, currentPlace, WroteTo, Put, AsksWrite}
 use Rattle.storage.specs.Admit.{admitted}
 use Rattle.storage.proofs.Admitting.{Room, room-lent, room-newest}
 use Rattle.storage.proofs.Chains.{write-stands, write-decides, write-room}
@@ -50,17 +49,15 @@ pub put-told : (x : Storage) (wd a v live page : ℕ) (latest : Version)
     → (content : Line) → content ≡ edit wd (offsetOf a) v (latest .content) → length content ≡ 16 → (pool groups table owners : List ℕ)
     → pool ≡ withPageLine (x .memory .pool) page (lineOf a % 8) content → groups ≡ withWritten (writtenIn x) (x .state .tag % 256) (lineOf a) (live - 1)
     → table ≡ set (x .memory .table) (entryPlace (x .state .lines) (frameAt (x .state .frames) (x .state .omf) (live - 1)) (lineOf a)) page
-    → owners ≡ set (x .memory .owners) page (entryPlace (x .state .lines) (frameAt (x .state .frames) (x .state .omf) (live - 1)) (lineOf a)) → (held : Cache)
-    → held ≡ placed (x .state .cache) (lineOf a) (x .state .cmf) content → (s : State)
-    → s ≡ stateWith (x .state) (x .state .cmf) (x .state .omf) (x .state .tag) (page + 1) held
+    → owners ≡ set (x .memory .owners) page (entryPlace (x .state .lines) (frameAt (x .state .frames) (x .state .omf) (live - 1)) (lineOf a)) → (s : State)
+    → s ≡ usedState (x .state) (page + 1) (placed (x .state .cache) (lineOf a) (x .state .cmf) content)
     → Put x wd a v live page (storageOf s (x .memory .archive) pool groups table owners (x .memory .history))
-unfolding usedState
-put-told x wd a v live page latest found content is whole pool groups table owners ep eg et eo held cached s e =
+put-told x wd a v live page latest found content is whole pool groups table owners ep eg et eo s e =
     record {
       content = content;
       content-is = is ∙ ap (λ (y : Version). edit wd (offsetOf a) v (y .content)) found;
       content-long = whole;
-      state = e ∙ ap (stateWith (x .state) (x .state .cmf) (x .state .omf) (x .state .tag) (page + 1)) cached;
+      state = e;
       memory = λ i. memoryOf (x .memory .archive) (ep i) (eg i) (et i) (eo i) (x .memory .history);
     }
 

@@ -6,7 +6,7 @@ use mathlib.Core.List.{List, []}
 use Prim.Native.Nat.{ℕ, _+_, _-_, _*_, _%_, _≤_, _<_}
 use native.Mathlib.Omega.{arith}
 use lib.ListN.{length, take, drop}
-use Rattle.rules.specs.Line.{lineOf, offsetOf, valueAt}
+use Rattle.rules.specs.Line.{Line, lineOf, offsetOf, valueAt}
 use Rattle.rules.specs.Call.{Answer, refused}
 use Rattle.rules.specs.Call.Origin.{from-cache, from-archive}
 use Rattle.rules.specs.Call.Answer.{reading, lending}
@@ -104,8 +104,8 @@ module _ (x : Storage) (w a : ℕ) where
       -- in the form in which the code has the version, the value, the cache and the state
       module _ (live : ℕ) (live-is : live ≡ liveIn (x .state)) (v : Version)
           (found : v ≡ latestOf (x .state .cache) (writtenIn x) (x .state .pages) live (x .memory .archive) (x .memory .pool) (x .memory .table) l)
-          (value : ℕ) (valued : value ≡ valueAt w (offsetOf a) (v .content)) (held : Cache) (cached : held ≡ placed (x .state .cache) l (v .frame) (v .content))
-          (s : State) (is : s ≡ stateWith (x .state) (x .state .cmf) (x .state .omf) (x .state .tag) (x .state .hint) held) where
+          (value : ℕ) (valued : value ≡ valueAt w (offsetOf a) (v .content)) (s : State)
+          (is : s ≡ usedState (x .state) (x .state .hint) (placed (x .state .cache) l (v .frame) (v .content))) where
         module _ (q : WellStore x) where
           b : l < x .state .lines
           b = line-below place-known
@@ -116,9 +116,9 @@ module _ (x : Storage) (w a : ℕ) where
               (found ∙ ap (λ (m : ℕ). latestOf (x .state .cache) (writtenIn x) (x .state .pages) m (x .memory .archive) (x .memory .pool) (x .memory .table) l) live-is)
 
           pub read-state : s ≡ readState x l
-          unfolding readState usedState
+          unfolding readState
           read-state =
-              is ∙ ap (stateWith (x .state) (x .state .cmf) (x .state .omf) (x .state .tag) (x .state .hint)) (cached ∙ ap₂ (placed (x .state .cache) l) (facts .1) (facts .0))
+              is ∙ ap₂ (λ (f : ℕ) (y : Line). usedState (x .state) (x .state .hint) (placed (x .state .cache) l f y)) (facts .1) (facts .0)
 
           read-answer : reading 0 value (originOf (v .origin)) ≡ due
           read-answer = ap₂ (reading 0) (valued ∙ ap (valueAt w (offsetOf a)) (facts .0)) (facts .2)
@@ -177,3 +177,10 @@ module _ (x : Storage) (l r : ℕ) (told : r ≡ admittedIn x (lineRefusal (sett
 pub page-end : (lines frames omf pages : ℕ) (table : List ℕ) (l : ℕ) (found : Found) (spot : Spot) (p n : ℕ) → spot ≡ spotOf lines frames omf pages table l found
     → spot ≡ Page p → 128 * pages ≤ n → 128 * p + 16 * (l % 8) + 16 ≤ n
 page-end lines frames omf pages table l found spot p n e d long = omega (arith, spot-below lines frames omf pages table l found p (sym e ∙ d))
+
+-- The state after a use of a line, as the code has it.
+pub used-done : (s : State) (hint line frame : ℕ) (content : List ℕ) (k : Cache) → k ≡ placed (s .cache) line frame content
+    → record { lines = s .lines; frames = s .frames; pages = s .pages; cmf = s .cmf; omf = s .omf; tag = s .tag; hint = hint; cache = k }
+    ≡ usedState s hint (placed (s .cache) line frame content)
+unfolding usedState
+used-done s hint line frame content k e = ap (stateWith s (s .cmf) (s .omf) (s .tag) hint) e

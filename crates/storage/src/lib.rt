@@ -23,6 +23,13 @@ pub struct State {
     pub cache: Cache,
 }
 
+// The state after a call, and its refusal or 0.
+#[repr(C)]
+pub struct Outcome {
+    pub state: State,
+    pub refusal: u32,
+}
+
 // The lengths of the lent pieces, in elements.
 pub struct Lengths {
     pub archive: usize,

@@ -1,36 +1,24 @@
 // The store: every call of document 01, in memory that the caller lends.
+pub use access::Reading;
+pub use access::line;
+pub use access::line_refusal;
+pub use access::read;
+pub use access::write;
 use cache::Cache;
-use frames::Found;
 pub use rules::Need;
 pub use rules::sizes;
+pub use storage::Outcome;
 pub use storage::State;
 pub use versions::Origin;
-use versions::Spot;
 ghost use mathlib.Core.Path.{_≡_};
-ghost use Rattle.rules.specs.Call.Answer.{outcome, lending, counting, verdict};
-ghost use Rattle.rules.specs.Call.Call.{LINE, LINE-REFUSAL, COUNTS, CHECK};
+ghost use Rattle.rules.specs.Call.Answer.{counting, verdict};
+ghost use Rattle.rules.specs.Call.Call.{COUNTS, CHECK};
 ghost use Rattle.rules.specs.Promise.{Promise};
 ghost use Rattle.wellformed.specs.Decision.{Decides};
 ghost use Rattle.storage.specs.Storage.{settingsIn, memoryOf, lengthsIn, storageOf, WellStore, store};
 ghost use Rattle.storage.specs.Admit.{admitted};
-ghost use Rattle.storage.specs.Steps.{freshState, stateWith, Put, AsksWrite};
-ghost use Rattle.store.specs.Shown.{shownOrigin};
-ghost use Rattle.store.specs.Contracts.{Resets, Writes, Reads, Marks, RollsBack, Advances};
-
-// The state after a call, and its refusal or 0.
-#[repr(C)]
-pub struct Outcome {
-    pub state: State,
-    pub refusal: u32,
-}
-
-// The value of a read and its origin, with the refusal or 0.
-pub struct Reading {
-    pub state: State,
-    pub refusal: u32,
-    pub value: u32,
-    pub origin: Origin,
-}
+ghost use Rattle.storage.specs.Steps.{freshState, stateWith};
+ghost use Rattle.storage.specs.Contracts.{Resets, Marks, RollsBack, Advances};
 
 // The live frames and the pages needed, with the refusal or 0.
 #[repr(C)]
@@ -114,248 +102,6 @@ pub fn reset(
         state: fresh(lines, frames, pages),
         refusal: 0,
     }
-}
-
-// Writes a value to the most recent version of its line and puts the line in a page of CMF and in the cache; the next search for a page
-// starts behind this one.
-fn put_value(
-    state: State,
-    archive: &[u8],
-    pool: &mut [u8],
-    groups: &mut [u32],
-    table: &mut [u16],
-    owners: &mut [u32],
-    history: &[u16],
-    width: u32,
-    address: u32,
-    value: u32,
-    live: u32,
-    page: u32,
-) -> State
-    requires { ⌜ AsksWrite (storageOf state (now archive) (now pool) (now groups) (now table) (now owners) (now history)) width address live page ⌝ }
-    ensures { λ r. ⌜ Put (storageOf state (now (archive .entry)) (now (pool .entry)) (now (groups .entry)) (now (table .entry)) (now (owners .entry)) (now (history .entry))) width address value live page
-        (storageOf r (now (archive .entry)) (now (pool .exit)) (now (groups .exit)) (now (table .exit)) (now (owners .exit)) (now (history .entry))) ⌝ }
-{
-    let line = address / 16;
-    let held = state.cache;
-    let latest = versions::latest(
-        held,
-        archive,
-        pool,
-        groups,
-        table,
-        history,
-        state.lines,
-        state.frames,
-        state.omf,
-        state.pages,
-        live,
-        line,
-    );
-    let before = latest.content;
-    let content = pages::lines::edited(before, width, address % 16, value);
-    versions::put(
-        pool,
-        groups,
-        table,
-        owners,
-        history,
-        state.lines,
-        state.frames,
-        state.omf,
-        state.tag % 256,
-        state.pages,
-        line,
-        live - 1,
-        page,
-        content,
-    );
-    let cache = cache::place(held, line, state.cmf as u16, content);
-    state_with(state, state.cmf, state.omf, state.tag, page + 1, cache)
-}
-
-// WRITE: to the line's page in CMF, which is the one it has or, if none of its block is needed yet, one that is given out.
-pub fn write(
-    state: State,
-    archive: &[u8],
-    pool: &mut [u8],
-    groups: &mut [u32],
-    table: &mut [u16],
-    owners: &mut [u32],
-    history: &[u16],
-    width: u32,
-    address: u32,
-    value: u32,
-) -> Outcome
-    ensures { λ r. ⌜ Writes
-        (storageOf state (now (archive .entry)) (now (pool .entry)) (now (groups .entry)) (now (table .entry)) (now (owners .entry)) (now (history .entry)))
-        width address value (r .refusal)
-        (storageOf (r .state) (now (archive .entry)) (now (pool .exit)) (now (groups .exit)) (now (table .exit)) (now (owners .exit)) (now (history .entry))) ⌝ }
-{
-    let lengths = storage::measure(archive, pool, groups, table, owners, history);
-    let refusal = storage::admit_write(state, lengths, width, address, value);
-    if refusal != 0 {
-        return Outcome { state, refusal };
-    }
-    let live = frames::live(state.cmf, state.omf, state.frames);
-    match versions::page_for(
-        groups,
-        history,
-        table,
-        owners,
-        state.lines,
-        state.frames,
-        state.omf,
-        state.pages,
-        state.hint,
-        state.cmf,
-        address / 16,
-    ) {
-        Found::At(page) => Outcome {
-            state: put_value(
-                state,
-                archive,
-                pool,
-                groups,
-                table,
-                owners,
-                history,
-                width,
-                address,
-                value,
-                live,
-                page,
-            ),
-            refusal: 0,
-        },
-        Found::Nothing => Outcome { state, refusal: 13 },
-    }
-}
-
-// READ: from the cache where it holds the line, else from where the newest version stands; the cache has the line afterwards.
-pub fn read(
-    state: State,
-    archive: &[u8],
-    pool: &[u8],
-    groups: &[u32],
-    table: &[u16],
-    owners: &[u32],
-    history: &[u16],
-    width: u32,
-    address: u32,
-) -> Reading
-    ensures { λ r. ⌜ Reads
-        (storageOf state (now (archive .entry)) (now (pool .entry)) (now (groups .entry)) (now (table .entry)) (now (owners .entry)) (now (history .entry)))
-        width address (r .refusal) (r .value) (shownOrigin (r .origin))
-        (storageOf (r .state) (now (archive .entry)) (now (pool .entry)) (now (groups .entry)) (now (table .entry)) (now (owners .entry)) (now (history .entry))) ⌝ }
-{
-    let lengths = storage::measure(archive, pool, groups, table, owners, history);
-    let refusal = storage::admit_place(state, lengths, width, address);
-    if refusal != 0 {
-        return Reading {
-            state,
-            refusal,
-            value: 0,
-            origin: Origin::Archive,
-        };
-    }
-    let line = address / 16;
-    let held = state.cache;
-    let latest = versions::latest(
-        held,
-        archive,
-        pool,
-        groups,
-        table,
-        history,
-        state.lines,
-        state.frames,
-        state.omf,
-        state.pages,
-        frames::live(state.cmf, state.omf, state.frames),
-        line,
-    );
-    let content = latest.content;
-    let origin = latest.origin;
-    let cache = cache::place(held, line, latest.frame, content);
-    Reading {
-        state: state_with(state, state.cmf, state.omf, state.tag, state.hint, cache),
-        refusal: 0,
-        value: pages::lines::value_of(content, width, address % 16),
-        origin,
-    }
-}
-
-// LINE: lends the part of the pool or of the archive that holds the line's most recent version; refused, an empty part of the archive.
-pub fn line<'a>(
-    state: State,
-    archive: &'a [u8],
-    pool: &'a [u8],
-    groups: &[u32],
-    table: &[u16],
-    owners: &[u32],
-    history: &[u16],
-    line: u32,
-) -> &'a [u8]
-    ensures { λ r. ⌜ Promise store (LINE line)
-        (storageOf state (now (archive .entry)) (now (pool .entry)) (now (groups .entry)) (now (table .entry)) (now (owners .entry)) (now (history .entry)))
-        (lending (now r))
-        (storageOf state (now (archive .entry)) (now (pool .entry)) (now (groups .entry)) (now (table .entry)) (now (owners .entry)) (now (history .entry))) ⌝ }
-{
-    let lengths = storage::measure(archive, pool, groups, table, owners, history);
-    if storage::admit_line(state, lengths, line) != 0 {
-        return &archive[0..0];
-    }
-    let live = frames::live(state.cmf, state.omf, state.frames);
-    let found = written::search(
-        groups,
-        history,
-        state.lines,
-        state.frames,
-        state.omf,
-        line,
-        live - 1,
-    );
-    match versions::locate(
-        table,
-        state.lines,
-        state.frames,
-        state.omf,
-        state.pages,
-        line,
-        found,
-    ) {
-        Spot::Page(page) => {
-            let from = 128 * (page as usize) + 16 * ((line % 8) as usize);
-            let end = from + 16;
-            &pool[from..end]
-        }
-        Spot::Archive => {
-            let from = 16 * (line as usize);
-            let end = from + 16;
-            &archive[from..end]
-        }
-    }
-}
-
-// LINE's companion: the refusal of `line` on the same arguments, or 0.
-pub fn line_refusal(
-    state: State,
-    archive: &[u8],
-    pool: &[u8],
-    groups: &[u32],
-    table: &[u16],
-    owners: &[u32],
-    history: &[u16],
-    line: u32,
-) -> u32
-    ensures { λ r. ⌜ Promise store (LINE-REFUSAL line)
-        (storageOf state (now (archive .entry)) (now (pool .entry)) (now (groups .entry)) (now (table .entry)) (now (owners .entry)) (now (history .entry)))
-        (outcome r)
-        (storageOf state (now (archive .entry)) (now (pool .entry)) (now (groups .entry)) (now (table .entry)) (now (owners .entry)) (now (history .entry))) ⌝ }
-{
-    let lengths = storage::measure(archive, pool, groups, table, owners, history);
-    storage::admit_line(state, lengths, line)
 }
 
 // MARK: opens the next frame. Nothing is copied and nothing cleared.

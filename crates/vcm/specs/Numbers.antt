@@ -10,7 +10,7 @@ use Rattle.rules.specs.Call.Origin.{from-cache, from-frame, from-archive}
 use Rattle.rules.specs.Call.Answer.{outcome, lending, verdict}
 use Rattle.rules.specs.Call.Call.{LINE, LINE-REFUSAL, CHECK}
 use Rattle.store.specs.Shown.{Kept, Promises}
-use Rattle.store.specs.Contracts.{Reads}
+use Rattle.storage.specs.Contracts.{Reads}
 
 -- "Origin is the cache, or a frame given by how many marks back it lies (0 is CMF), or the archive."
 unfoldable pub originNumber : Origin → ℕ

@@ -13,7 +13,7 @@ ghost use Rattle.rules.specs.Call.Call.{LINE-REFUSAL, COUNTS};
 ghost use Rattle.storage.specs.Storage.{storageOf};
 ghost use Rattle.storage.specs.Steps.{freshState};
 ghost use Rattle.store.specs.Shown.{Promises, shownOrigin};
-ghost use Rattle.store.specs.Contracts.{Resets, Writes, Marks, RollsBack, Advances};
+ghost use Rattle.storage.specs.Contracts.{Resets, Writes, Marks, RollsBack, Advances};
 ghost use Rattle.vcm.specs.Numbers.{originNumber, marksBack, ReadsAs, copied, CopiesLine, ChecksAs};
 
 // An origin as a number. Marks back are 0 but for a frame's.

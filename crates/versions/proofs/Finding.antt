@@ -19,16 +19,15 @@ use Rattle.written.specs.Bits.{Written, effective, newestFrom}
 use Rattle.written.proofs.Areas.{place-below}
 use Rattle.pages.specs.Lines.{pageLine, archiveLine, AsksPage}
 use Rattle.pages.specs.Table.{AsksTable}
-use Rattle.cache.specs.declared.Cache.{Cache}
 use Rattle.cache.specs.declared.Entry.{Entry}
 use Rattle.cache.specs.declared.Entry.the-variants.{Hit, Miss}
-use Rattle.cache.specs.Entries.{found, frameOf, bytesOf}
+use Rattle.cache.specs.Entries.{bytesIn, foundIn}
 use Rattle.versions.specs.declared.Spot.{Spot}
 use Rattle.versions.specs.declared.Spot.the-variants.{Page, Archive}
 use Rattle.versions.specs.declared.Origin.{Origin}
 use Rattle.versions.specs.declared.Origin.the-variants as origin
 use Rattle.versions.specs.declared.Version.{Version}
-use Rattle.versions.specs.Newest.{entryPlace, pageOf, spotOf, contentOf, numberOf, backIn, newestOf, latestFrom, latestOf, AsksEntry, AsksSpot, AsksContent, AsksNewest}
+use Rattle.versions.specs.Newest.{entryPlace, pageOf, spotOf, contentOf, numberOf, backIn, newestOf, latestFrom, latestHeld, AsksEntry, AsksSpot, AsksContent, AsksNewest}
 
 -- the place of a frame and line lies in the table
 pub entry-within : (lines frames frame line : ℕ) → lines % 8 ≡ 0 → frame < frames → line < lines → entryPlace lines frame line < frames * (lines / 8)
@@ -168,17 +167,17 @@ module _ (w : Written) (pages live line : ℕ) (archive pool table : List ℕ) (
   unfolding numberOf backIn
   newest-none e = version-is 65535 origin.Archive (ap (numberOf (w .frames) (w .omf)) (sym e)) (ap (backIn live) (sym e))
 
-module _ (c : Cache) (w : Written) (pages live line : ℕ) (archive pool table : List ℕ) (r : Entry) (told : r ≡ found c line) where
-  pub latest-hit : (e n : ℕ) (x : Line) → r ≡ Hit e → x ≡ bytesOf c e → n ≡ frameOf c e
-      → record { content = x; frame = n; origin = origin.Cache } ≡ latestOf c w pages live archive pool table line
-  unfolding latestOf latestFrom
+module _ (lines frames valid bytes : List ℕ) (w : Written) (pages live line : ℕ) (archive pool table : List ℕ) (r : Entry) (told : r ≡ foundIn lines valid line) where
+  pub latest-hit : (e n : ℕ) (x : Line) → r ≡ Hit e → x ≡ bytesIn bytes e → n ≡ getD frames e 0
+      → record { content = x; frame = n; origin = origin.Cache } ≡ latestHeld lines frames valid bytes w pages live archive pool table line
+  unfolding latestHeld latestFrom
   latest-hit e n x h ex en =
       ap₂ (λ (y : Line) (z : ℕ). record { content = y; frame = z; origin = origin.Cache }) ex en
-      ∙ ap (latestFrom c (newestOf w pages live archive pool table line)) (sym h ∙ told)
+      ∙ ap (latestFrom frames bytes (newestOf w pages live archive pool table line)) (sym h ∙ told)
 
-  pub latest-miss : (v : Version) → r ≡ Miss → v ≡ newestOf w pages live archive pool table line → v ≡ latestOf c w pages live archive pool table line
-  unfolding latestOf latestFrom
-  latest-miss v h e = e ∙ ap (latestFrom c (newestOf w pages live archive pool table line)) (sym h ∙ told)
+  pub latest-miss : (v : Version) → r ≡ Miss → v ≡ newestOf w pages live archive pool table line → v ≡ latestHeld lines frames valid bytes w pages live archive pool table line
+  unfolding latestHeld latestFrom
+  latest-miss v h e = e ∙ ap (latestFrom frames bytes (newestOf w pages live archive pool table line)) (sym h ∙ told)
 
 -- what a version found has its frame and origin by
 module _ (w : Written) (pages live line : ℕ) (archive pool table : List ℕ) (asks : AsksNewest w pages live line archive pool table) (r : Found) (i : ℕ)

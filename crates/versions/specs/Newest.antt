@@ -17,7 +17,7 @@ use Rattle.pages.specs.Table.{AsksTable}
 use Rattle.cache.specs.declared.Cache.{Cache}
 use Rattle.cache.specs.declared.Entry.{Entry}
 use Rattle.cache.specs.declared.Entry.the-variants.{Hit, Miss}
-use Rattle.cache.specs.Entries.{found, frameOf, bytesOf}
+use Rattle.cache.specs.Entries.{bytesIn, foundIn}
 use Rattle.cache.specs.Steps.{archiveFrame}
 use Rattle.versions.specs.declared.Spot.{Spot}
 use Rattle.versions.specs.declared.Spot.the-variants.{Page, Archive}
@@ -72,12 +72,17 @@ newestOf w pages live archive pool table l =
     }
 
 -- or as an entry of the cache has it.
-unfoldable pub latestFrom : Cache → Version → Entry → Version
-latestFrom c other (Hit e) = record { content = bytesOf c e; frame = frameOf c e; origin = origin.Cache }
-latestFrom c other Miss = other
+unfoldable pub latestFrom : (held-frames bytes : List ℕ) → Version → Entry → Version
+latestFrom frames bytes other (Hit e) = record { content = bytesIn bytes e; frame = getD frames e 0; origin = origin.Cache }
+latestFrom frames bytes other Miss = other
 
-unfoldable pub latestOf : Cache → Written → (pages live : ℕ) → (archive pool table : List ℕ) → (line : ℕ) → Version
-latestOf c w pages live archive pool table l = latestFrom c (newestOf w pages live archive pool table l) (found c l)
+unfoldable pub latestHeld : (held-lines held-frames valid bytes : List ℕ) → Written → (pages live : ℕ) → (archive pool table : List ℕ) → (line : ℕ) → Version
+latestHeld lines frames valid bytes w pages live archive pool table l =
+    latestFrom frames bytes (newestOf w pages live archive pool table l) (foundIn lines valid l)
+
+abbrev pub latestOf : Cache → Written → (pages live : ℕ) → (archive pool table : List ℕ) → (line : ℕ) → Version
+latestOf c w pages live archive pool table l =
+    latestHeld (c .lines) (c .frames) (c .valid) (c .bytes) w pages live archive pool table l
 
 -- What the functions ask of the numbers and the lent lengths; the store tests it.
 pub record AsksEntry (lines frame line long : ℕ) : Type 0 where

@@ -1,7 +1,6 @@
 // Versions of lines in lent memory: where the newest one stands and its bytes, folding versions into the archive, and putting a new one
 // in its page. Every function is safe on any contents; what the `requires` ask of numbers and lengths is tested by the store, and only our
 // own crates call them.
-use cache::Cache;
 use cache::Entry;
 use frames::Found;
 ghost use mathlib.Core.Path.{_≡_};
@@ -12,7 +11,7 @@ ghost use Rattle.frames.specs.Circle.{frameAt};
 ghost use Rattle.written.specs.Bits.{writtenOf};
 ghost use Rattle.written.specs.Steps.{withWritten};
 ghost use Rattle.pages.specs.Lines.{withPageLine};
-ghost use Rattle.versions.specs.Newest.{entryPlace, spotOf, contentOf, newestOf, latestOf, AsksEntry, AsksSpot, AsksContent, AsksNewest};
+ghost use Rattle.versions.specs.Newest.{entryPlace, spotOf, contentOf, newestOf, latestHeld, AsksEntry, AsksSpot, AsksContent, AsksNewest};
 ghost use Rattle.versions.specs.Steps.{zeroed, foldedLine, folded, pageFor, AsksPageFor, AsksPut, AsksFold};
 
 // Where a version stands: in a page of the pool, in the slot of its line, or in the archive.
@@ -129,9 +128,12 @@ pub fn newest(
     }
 }
 
-// The same from the cache, where it holds the line.
-pub fn latest(
-    cache: Cache,
+// The same from the cache, where it holds the line: lines, frames, valid flags and bytes of its entries.
+pub fn latest<'a>(
+    held: &'a [u32; 32],
+    origins: &'a [u16; 32],
+    valid: &'a [u8; 32],
+    bytes: &'a [u8; 512],
     archive: &[u8],
     pool: &[u8],
     groups: &[u32],
@@ -144,13 +146,13 @@ pub fn latest(
     live: u32,
     line: u32,
 ) -> Version
-    requires { ⌜ AsksNewest (writtenOf lines frames omf (now groups) (now history)) pages live line (now archive) (now pool) (now table) ⌝ }
-    ensures { λ r. ⌜ r ≡ latestOf cache (writtenOf lines frames omf (now (groups .entry)) (now (history .entry))) pages live (now (archive .entry)) (now (pool .entry)) (now (table .entry)) line ⌝ }
+    requires { ⌜ (AsksNewest (writtenOf lines frames omf (now groups) (now history)) pages live line (now archive) (now pool) (now table)) × (length (now bytes) ≡ 512) ⌝ }
+    ensures { λ r. ⌜ r ≡ latestHeld (now (held .entry)) (now (origins .entry)) (now (valid .entry)) (now (bytes .entry)) (writtenOf lines frames omf (now (groups .entry)) (now (history .entry))) pages live (now (archive .entry)) (now (pool .entry)) (now (table .entry)) line ⌝ }
 {
-    match cache::find(cache, line) {
+    match cache::find(held, valid, line) {
         Entry::Hit(entry) => Version {
-            content: cache::line_at(cache, entry),
-            frame: cache::frame_of(cache, entry),
+            content: cache::line_at(bytes, entry),
+            frame: cache::frame_of(origins, entry),
             origin: Origin::Cache,
         },
         Entry::Miss => newest(

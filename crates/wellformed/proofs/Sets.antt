@@ -9,7 +9,7 @@ use lib.ListN.{getD}
 use Rattle.rules.specs.Sizing.{settingsOf}
 use Rattle.rules.specs.Figure3.{WellCache}
 use Rattle.cache.specs.declared.Cache.{Cache}
-use Rattle.cache.specs.Entries.{Sized, lineOf, isValid}
+use Rattle.cache.specs.Entries.{Sized, lineOf, isValid, isValidIn}
 use Rattle.cache.specs.Shown.{lineIn, shown}
 use Rattle.cache.proofs.Hits.{valid-below}
 use Rattle.wellformed.specs.Decision.{Decides}
@@ -42,7 +42,7 @@ module _ (lines : ℕ) (c : Cache) (set : ℕ) where
 -- An entry as a way of Figure 3's cache.
 module _ (c : Cache) (e : ℕ) where
   in-valid : getD (c .valid) e 0 ≡ 1 → lineIn c e ≡ some (lineOf c e)
-  unfolding lineIn isValid
+  unfolding lineIn isValidIn
   in-valid v = ap (λ (b : Bool). cond b (some (lineOf c e)) none) (eq-eqb (getD (c .valid) e 0) 1 v)
 
   record Within (l : ℕ) : Type 0 where
@@ -51,7 +51,7 @@ module _ (c : Cache) (e : ℕ) where
     pub below : Sized c → e < 32
 
   valid-in : (l : ℕ) → lineIn c e ≡ some l → Within l
-  unfolding lineIn isValid
+  unfolding lineIn isValidIn
   valid-in l h = go (isValid c e) refl h
     where
       go : (b : Bool) → isValid c e ≡ b → cond b (some (lineOf c e)) none ≡ some l → Within l

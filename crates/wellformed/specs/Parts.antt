@@ -1,16 +1,14 @@
 -- The clauses of well-formedness that a function decides by itself, and what is asked of the numbers and the lent lengths.
 use Prim.Native.Nat.{ℕ, _+_, _*_, _%_, _≤_, _<_}
 use mathlib.Core.Path.{_≡_}
-use mathlib.Core.Bool.{true, false}
 use mathlib.Core.List.{List}
 use lib.ListN.{length, getD}
 use Rattle.rules.specs.Line.{Line}
-use Rattle.frames.specs.Digits.{bit}
 use Rattle.cache.specs.declared.Cache.{Cache}
 use Rattle.cache.specs.Entries.{lineOf}
 use Rattle.pages.specs.Table.{AsksTable}
 use Rattle.versions.specs.Newest.{newestOf}
-use Rattle.written.specs.Bits.{Written, Lent, tagOf, effective}
+use Rattle.written.specs.Bits.{Written, Lent}
 
 -- A set of the cache whose valid entries are in it and below L, and not both with one line.
 pub record SetWell (lines : ℕ) (c : Cache) (set : ℕ) : Type 0 where

@@ -306,7 +306,7 @@ pub fn coherent(
     while e < 32 {
         let at = e as usize;
         if valid[at] == 1 {
-            let content = cache::line_at(cache, e);
+            let content = cache::bytes_of(cache, e);
             if !is_recent(
                 archive,
                 pool,

@@ -14,13 +14,13 @@ use Rattle.rules.proofs.Tests.{both-true}
 use Rattle.frames.specs.Circle.{frameAt, indexOf}
 use Rattle.frames.specs.Digits.{bit}
 use Rattle.frames.proofs.Circle.{frame-below, index-frame}
-use Rattle.written.specs.Bits.{Written, writtenOf, Lent, placeOf, tagOf, tagged, boundOf, standing, effective, windowOf}
-use Rattle.written.specs.Steps.{Ordered, cleared, lowerBound, lowered}
+use Rattle.written.specs.Bits.{Written, writtenOf, Lent, placeOf, tagOf, boundOf, standing, effective}
+use Rattle.written.specs.Steps.{Ordered, keptOf, cleared, lowerBound, lowered}
 use Rattle.written.specs.Well.{WellBits}
 use Rattle.frames.proofs.Lists.{rewrite-at, rewrite-length}
 use Rattle.written.proofs.Areas.{place-below, area-below, lent-kept}
 use Rattle.written.proofs.Windows.{window-small, window-bit}
-use Rattle.written.proofs.Setting.{tagged-tag, tagged-bit}
+use Rattle.written.proofs.Setting.{tagged-bit}
 use Rattle.written.proofs.Sweeping.{lower-open, lower-else}
 
 -- The frame of an index after OMF has moved k frames on: that of the index k further, round the circle.
@@ -82,7 +82,7 @@ module _ (w : Written) (lent : Lent w) (k : ℕ) (below : k < w .frames) where
       writtenOf (w .lines) (w .frames) (frameAt (w .frames) (w .omf) k) (cleared (w .lines) (w .frames) (w .omf) k (w .groups)) (lowered k (w .history))
 
   abbrev keep : ℕ → ℕ → ℕ
-  keep at g = tagged (tagOf g) (windowOf (w .frames) (w .omf) (at / w .lines) g k (w .frames))
+  keep at g = keptOf (w .frames) (w .omf) (at / w .lines) k g
 
   cleared-group : (at : ℕ) → at < w .frames / 16 * w .lines → getD (cleared (w .lines) (w .frames) (w .omf) k (w .groups)) at 0 ≡ keep at (getD (w .groups) at 0)
   unfolding cleared
@@ -101,7 +101,8 @@ module _ (w : Written) (lent : Lent w) (k : ℕ) (below : k < w .frames) where
   lowered-length = rewrite-length (λ _ e. lowerBound k e) (w .history) 256
 
   keep-tag : (at g : ℕ) → tagOf (keep at g) ≡ tagOf g
-  keep-tag at g = tagged-tag (tagOf g) _ (omega arith) (window-small (w .frames) (w .omf) (at / w .lines) g k (w .frames))
+  unfolding keptOf
+  keep-tag at g = omega (arith, window-small (w .frames) (w .omf) (at / w .lines) g k (w .frames))
 
   module _ (j m : ℕ) (b : j < w .frames) (c : m < w .lines) where
     abbrev f : ℕ
@@ -117,10 +118,11 @@ module _ (w : Written) (lent : Lent w) (k : ℕ) (below : k < w .frames) where
     f-below = frame-below (w .frames) (frameAt (w .frames) (w .omf) k) (frame-below (w .frames) (w .omf) (lent .omf-below) k) j
 
     keep-bit : bit (keep at g) (f % 16) ≡ (bit g (f % 16) && (leb k (indexOf (w .frames) (w .omf) f) && ltb (indexOf (w .frames) (w .omf) f) (w .frames)))
+    unfolding keptOf
     keep-bit =
         let area : at / w .lines ≡ f / 16 = digits-div (f / 16) c in
         let inside : at / w .lines * 16 + f % 16 ≡ f = omega (arith, area) in
-        tagged-bit (tagOf g) _ (f % 16) (window-small (w .frames) (w .omf) (at / w .lines) g k (w .frames)) (omega arith)
+        tagged-bit (g / 65536) _ (f % 16) (window-small (w .frames) (w .omf) (at / w .lines) g k (w .frames)) (omega arith)
         ∙ (window-bit (w .frames) (w .omf) (at / w .lines) g k (w .frames) (lent .omf-below) (f % 16) (rw inside f-below) (omega arith)
         ∙ ap (λ (x : ℕ). bit g (f % 16) && (leb k (indexOf (w .frames) (w .omf) x) && ltb (indexOf (w .frames) (w .omf) x) (w .frames))) inside)
 
@@ -162,6 +164,7 @@ module _ (w : Written) (lent : Lent w) (k : ℕ) (below : k < w .frames) where
 
   -- and the written bits stay well-formed.
   pub advanced-well : (tag live : ℕ) → WellBits w tag live → WellBits advanced tag (live - k)
+  unfolding keptOf
   advanced-well tag live q =
       record {
         lent = lent-kept w _ _ _ lent (frame-below (w .frames) (w .omf) (lent .omf-below) k) cleared-length lowered-length;
@@ -187,7 +190,7 @@ module _ (w : Written) (lent : Lent w) (k : ℕ) (below : k < w .frames) where
           let inside : at / w .lines * 16 + p < w .frames = omega (arith, lent .frames-by, area, c) in
           let is : bit (keep at g) p ≡ true = sym (ap (λ (x : ℕ). bit x p) (cleared-group at b)) ∙ e in
           let kept =
-          sym (tagged-bit (tagOf g) _ p (window-small (w .frames) (w .omf) (at / w .lines) g k (w .frames)) c
+          sym (tagged-bit (g / 65536) _ p (window-small (w .frames) (w .omf) (at / w .lines) g k (w .frames)) c
           ∙ window-bit (w .frames) (w .omf) (at / w .lines) g k (w .frames) (lent .omf-below) p inside c)
           ∙ is
           in

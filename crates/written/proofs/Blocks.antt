@@ -18,7 +18,7 @@ use Rattle.frames.specs.declared.Found.the-variants.{At, Nothing}
 use Rattle.frames.proofs.Search.{greatest-nothing, greatest-found}
 use Rattle.written.specs.Bits.{Written, Asks, placeOf, boundOf, standing, effective, anyFrom, standsIn, runHas, blockHas, upOf}
 use Rattle.written.proofs.Areas.{frame-up, up-area, up-place}
-use Rattle.written.proofs.Runs.{none-of, both-of}
+use Rattle.written.proofs.Runs.{none-of, both-of, none-stands}
 
 -- A window with and without a number that passes.
 pub from-true : (from end k : ℕ) (f : ℕ → Bool) → from ≤ k → k < end → f k ≡ true → anyFrom from end f ≡ true
@@ -81,27 +81,32 @@ module _ (g bound p i up m t : ℕ) (r : Found) where
       none k a b (no d) = none-of (bit g (k + p - i)) (ltb k bound) (λ z. le-ltb k bound (omega arith))
 
 -- A working area from an index up.
-pub run-is : (w : Written) (l i end z g b up : ℕ) (r : Bool) → Asks w l i × (end ≤ w .frames) → z ≡ frameAt (w .frames) (w .omf) i
-    → g ≡ getD (w .groups) (placeOf (w .lines) (z / 16) l) 0 → (b ≡ boundOf (w .history) g) × (b < 65536)
-    → up ≡ upOf (w .frames) (w .omf) i end → r ≡ standsIn g b (z % 16) i up → r ≡ runHas w l i end
-unfolding standsIn runHas upOf effective
-run-is w l i end z g b up r a ez eg eb eu er =
-    er ∙ (ap (λ (n : ℕ). anyFrom i (i + n) (λ k. standing g (k + z % 16 - i) k b)) eu
-    ∙ from-same i (i + upOf (w .frames) (w .omf) i end) _ _ same)
-  where
-    f : ℕ
-    f = frameAt (w .frames) (w .omf) i
+module _ (w : Written) (l i end z g : ℕ) (a : Asks w l i × (end ≤ w .frames)) (ez : z ≡ frameAt (w .frames) (w .omf) i)
+    (eg : g ≡ getD (w .groups) (placeOf (w .lines) (z / 16) l) 0) where
+  run-effective : (k : ℕ) → i ≤ k → k < i + upOf (w .frames) (w .omf) i end
+      → effective w k l ≡ standing g (k + z % 16 - i) k (boundOf (w .history) g)
+  unfolding upOf effective
+  run-effective k c d =
+      let f : ℕ = frameAt (w .frames) (w .omf) i in
+      let e = frame-up (w .frames) (w .omf) (a .0 .lent .omf-below) (a .0 .lent .frames-by) i k (omega (arith, a .1)) c (omega arith) in
+      let area = up-area f (frameAt (w .frames) (w .omf) k) (k - i) e (omega arith) in
+      let place : frameAt (w .frames) (w .omf) k % 16 ≡ k + z % 16 - i = omega (arith, up-place f (frameAt (w .frames) (w .omf) k) (k - i) e (omega arith), ez) in
+      let group : getD (w .groups) (placeOf (w .lines) (frameAt (w .frames) (w .omf) k / 16) l) 0 ≡ g =
+      ap (λ (y : ℕ). getD (w .groups) (placeOf (w .lines) y l) 0) (area ∙ ap (λ (y : ℕ). y / 16) (sym ez)) ∙ sym eg
+      in
+      ap₂ (λ (x p : ℕ). standing x p k (boundOf (w .history) x)) group place
 
-    same : (k : ℕ) → i ≤ k → k < i + upOf (w .frames) (w .omf) i end → standing g (k + z % 16 - i) k b ≡ effective w k l
-    same k c d =
-        let e = frame-up (w .frames) (w .omf) (a .0 .lent .omf-below) (a .0 .lent .frames-by) i k (omega (arith, a .1)) c (omega arith) in
-        let area = up-area f (frameAt (w .frames) (w .omf) k) (k - i) e (omega arith) in
-        let place : k + z % 16 - i ≡ frameAt (w .frames) (w .omf) k % 16 = omega (arith, up-place f (frameAt (w .frames) (w .omf) k) (k - i) e (omega arith), ez) in
-        let group : g ≡ getD (w .groups) (placeOf (w .lines) (frameAt (w .frames) (w .omf) k / 16) l) 0 =
-        eg ∙ ap (λ (y : ℕ). getD (w .groups) (placeOf (w .lines) y l) 0) (ap (λ (y : ℕ). y / 16) ez ∙ sym area)
-        in
-        ap (λ (x : ℕ). standing g (k + z % 16 - i) k x) (eb .0)
-        ∙ ap₂ (λ (x p : ℕ). standing x p k (boundOf (w .history) x)) group place
+  pub run-is : (b up : ℕ) (r : Bool) → (b ≡ boundOf (w .history) g) × (b < 65536) → up ≡ upOf (w .frames) (w .omf) i end
+      → r ≡ standsIn g b (z % 16) i up → r ≡ runHas w l i end
+  unfolding standsIn runHas
+  run-is b up r eb eu er =
+      er ∙ (ap₂ (λ (n x : ℕ). anyFrom i (i + n) (λ k. standing g (k + z % 16 - i) k x)) eu (eb .0)
+      ∙ from-same i (i + upOf (w .frames) (w .omf) i end) _ _ (λ k c d. sym (run-effective k c d)))
+
+  pub run-bare : g % 65536 ≡ 0 → false ≡ runHas w l i end
+  unfolding runHas upOf
+  run-bare e =
+      sym (from-false i (i + upOf (w .frames) (w .omf) i end) _ (λ k c d. run-effective k c d ∙ none-stands g (k + z % 16 - i) k _ e (omega (arith, ez))))
 
 -- a run stays within its group, and goes on
 pub up-fits : (n omf i end z up : ℕ) → z ≡ frameAt n omf i → up ≡ upOf n omf i end → z % 16 + up ≤ 16

@@ -6,24 +6,21 @@ use Prim.Native.Nat.{ℕ, _+_, _*_, _/_, _%_, _≤_, _<_}
 use native.Mathlib.Decide.{ℕ-discrete}
 use native.Mathlib.Omega.{arith}
 use borrow.Author.Tests.{ne-eqb}
-use lib.Dec.{eqb, ltb}
+use lib.Dec.{eqb}
 use lib.ListN.{length, getD, set, length-set}
 use lib.Seq.{getD-set-same, getD-set-other}
 use Rattle.frames.specs.Circle.{frameAt}
 use Rattle.frames.specs.Digits.{bit}
 use Rattle.frames.proofs.Digits.{bit-none, digit-past, set-small}
-use Rattle.written.specs.Bits.{Written, writtenOf, Lent, Asks, placeOf, tagOf, standing, effective, boundOf}
+use Rattle.written.specs.Bits.{Written, writtenOf, Lent, Asks, placeOf, tagOf, effective, boundOf}
 use Rattle.written.specs.Steps.{regrouped, withWritten, blanked}
 use Rattle.written.specs.Well.{WellBits}
 use Rattle.frames.proofs.Lists.{rewrite-at, rewrite-length}
 use Rattle.written.proofs.Areas.{lent-kept}
+use Rattle.written.proofs.Runs.{standing-none}
 use Rattle.written.proofs.Windows.{window-small}
 use Rattle.written.proofs.Setting.{set-in, set-effective, tagged-tag}
 use Rattle.written.proofs.Rolling.{group-place}
-
-standing-none : (g p k x : ℕ) → bit g p ≡ false → standing g p k x ≡ false
-unfolding standing
-standing-none g p k x e = ap (λ (t : Bool). t && ltb k x) e
 
 -- MARK: the next frame has no bit.
 pub mark-keeps : (w : Written) (tag live : ℕ) → WellBits w tag live → WellBits w tag (live + 1)

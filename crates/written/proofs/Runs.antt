@@ -13,6 +13,7 @@ use Rattle.frames.specs.Digits.{bit, newestBit}
 use Rattle.frames.specs.Search.{greatest}
 use Rattle.frames.specs.declared.Found.{Found}
 use Rattle.frames.specs.declared.Found.the-variants.{At, Nothing}
+use Rattle.frames.proofs.Digits.{bit-none, digit-below, digit-past}
 use Rattle.frames.proofs.Search.{greatest-none, greatest-at, greatest-same, greatest-nothing, Greatest, greatest-found, greatest-part-at, greatest-part-none}
 use Rattle.written.specs.Bits.{Written, Asks, placeOf, boundOf, standing, effective, newestRun, newestInArea, newestFrom, downOf}
 use Rattle.written.proofs.Areas.{frame-down, down-area, down-place}
@@ -23,6 +24,15 @@ none-of false b h = refl
 
 pub both-of : (a b : Bool) → a ≡ true → b ≡ true → (a && b) ≡ true
 both-of a b p q = ap₂ (λ (x y : Bool). x && y) p q
+
+pub standing-none : (g p k x : ℕ) → bit g p ≡ false → standing g p k x ≡ false
+unfolding standing
+standing-none g p k x e = ap (λ (t : Bool). t && ltb k x) e
+
+-- a group without bits has none that stands
+pub none-stands : (g p k x : ℕ) → g % 65536 ≡ 0 → p < 16 → standing g p k x ≡ false
+none-stands g p k x e h =
+    standing-none g p k x (bit-none g p (digit-below g 0 16 p e h ∙ digit-past 0 0 p (omega arith) (omega arith)))
 
 lt-min : (x a b : ℕ) → x < a → x < b → x < min a b
 lt-min x a b h k = omega arith
@@ -135,6 +145,17 @@ module _ (w : Written) (l i : ℕ) (a : Asks w l i) where
       same k c (no d) =
           ap (λ (t : Bool). t && standing g (k + f % 16 - i) k (boundOf (w .history) g)) (lt-leb (i - min (f % 16) i) k (omega arith))
           ∙ sym (ap (λ (t : Bool). t && effective w k l) (lt-leb (i - min (f % 16) i) k (omega arith)))
+
+  pub area-none : (z g : ℕ) → z ≡ frameAt (w .frames) (w .omf) i → g ≡ getD (w .groups) (placeOf (w .lines) (z / 16) l) 0 → g % 65536 ≡ 0
+      → Nothing ≡ newestInArea w l i
+  unfolding newestInArea downOf
+  area-none z g ez eg e =
+      sym (greatest-none (i + 1) _ (λ k c. none-of (leb (i - min (f % 16) i) k) _ (λ d. none k c (leb-true (i - min (f % 16) i) k d))))
+    where
+      none : (k : ℕ) → k < i + 1 → i - min (f % 16) i ≤ k → effective w k l ≡ false
+      none k c d =
+          area-effective g (eg ∙ ap (λ (y : ℕ). getD (w .groups) (placeOf (w .lines) (y / 16) l) 0) ez) k (omega arith) d
+          ∙ none-stands g (k + f % 16 - i) k _ e (omega arith)
 
 -- Area after area, down from a start: what is found in an area is found from the start, and what is not is found further down.
 module _ (w : Written) (l start i : ℕ) (now : newestFrom w l start ≡ newestFrom w l i) where

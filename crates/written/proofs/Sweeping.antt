@@ -2,25 +2,26 @@
 use mathlib.Core.Path.{_≡_, refl, sym, _∙_, ap}
 use mathlib.Core.Bool.{Bool, cond}
 use mathlib.Core.List.{List}
-use Prim.Native.Nat.{ℕ, _+_, _*_, _/_, _-_, _≤_, _<_, min}
-use native.Mathlib.Nat.{mul-le-mul, div-lt-iff-lt-mul}
+use Prim.Native.Nat.{ℕ, _+_, _*_, _/_, _%_, _-_, _≤_, _<_, min}
+use native.Mathlib.Nat.{mul-le-mul, mul-le-mul-right, suc-mul, zero-mul}
 use native.Mathlib.Omega.{arith}
 use borrow.Author.Tests.{eq-eqb, ne-eqb, lt-ltb, le-ltb}
+use borrow.Rule.Slice.PartMut.{midOf, putMid}
+use lib.Arith.{digits-div}
 use lib.ListN.{length, getD, set}
 use Rattle.frames.specs.Lists.{rewrite}
-use Rattle.written.specs.Bits.{Written, writtenOf, boundOf, windowOf}
+use Rattle.written.specs.Bits.{Written, writtenOf, boundOf, firstIndex, cutOf, windowOf}
 use Rattle.written.specs.Steps.{maskedOf, Entered, entered, swept, cleared, lowerBound, nextTag, RolledBack}
-use Rattle.frames.proofs.Lists.{rewrite-length, rewrite-past}
+use Rattle.frames.proofs.Lists.{Rewritten, rewrite-start, rewrite-end, rewrite-length, rewrite-past, rewrite-part}
+use Rattle.written.proofs.Windows.{cut-none}
 
 -- the groups are few
 pub count-few : (lines frames : ℕ) → lines ≤ 4096 → frames ≤ 4096 → frames / 16 * lines ≤ 1048576
 count-few lines frames a b = mul-le-mul {n₁ = frames / 16} {m₁ = lines} {n₂ = 256} {m₂ = 4096} (omega arith) a
 
--- the area of a group's place
-pub area-of-place : (lines frames at : ℕ) → 0 < lines → at < frames / 16 * lines → at / lines * 16 < frames
-area-of-place lines frames at some h =
-    let b : at / lines < frames / 16 = div-lt-iff-lt-mul some .1 h in
-    omega arith
+-- and so are those before an area
+pub place-few : (lines frames area : ℕ) → lines ≤ 4096 → frames ≤ 4096 → area < frames / 16 → area * lines ≤ 1048576
+place-few lines frames area a b c = mul-le-mul {n₁ = area} {m₁ = lines} {n₂ = 256} {m₂ = 4096} (omega arith) a
 
 pub entered-told : (before now : List ℕ) (tag kept : ℕ) → now ≡ rewrite (tag + 1) (λ _ e. min e kept) before → Entered tag kept before now
 unfolding entered
@@ -31,11 +32,39 @@ entered-told before now tag kept e =
       past = λ k h. ap (λ (xs : List ℕ). getD xs k 0) e ∙ rewrite-past (λ _ e. min e kept) before (tag + 1) k (omega arith);
     }
 
--- what a turn of the sweep stores
-pub masked-told : (frames omf area g b r : ℕ) (history : List ℕ) → (b ≡ boundOf history g) × (b < 65536) → r ≡ windowOf frames omf area g 0 b
-    → r ≡ maskedOf frames omf area history g
-unfolding maskedOf
-masked-told frames omf area g b r history eb er = cc
+-- what the sweep stores for a group without bits, and for any
+pub masked-bare : (g s u : ℕ) (history : List ℕ) → (u ≤ 16) × (256 ≤ length history) → g % 65536 ≡ 0 → 0 ≡ cutOf g s u 0 (boundOf history g)
+masked-bare g s u history few e = sym (cut-none g s u 0 (boundOf history g) (few .0) e)
+
+pub masked-told : (frames omf area g s u r : ℕ) (history : List ℕ) → (s ≡ firstIndex frames omf area) × (s < frames) → u ≡ min 16 (frames - s)
+    → r ≡ cutOf g s u 0 (boundOf history g) → r ≡ maskedOf frames omf area history g
+unfolding maskedOf windowOf
+masked-told frames omf area g s u r history es eu er = cc
+
+-- The groups of a working area lie in the lent list,
+pub area-within : (lines areas area n : ℕ) → area < areas → areas * lines ≤ n → area * lines + lines ≤ n
+area-within lines areas area n b h = omega (arith, mul-le-mul-right lines b, suc-mul area lines)
+
+-- and a list that is rewritten area by area has these groups rewritten one turn later.
+pub area-more : (lines areas area : ℕ) (h : ℕ → ℕ → ℕ) (xs now ys : List ℕ) → area < areas → areas * lines ≤ length xs
+    → Rewritten (area * lines) (λ at g. h (at / lines) g) xs now
+    → ys ≡ rewrite (length (midOf (area * lines) (area * lines + lines - area * lines) now)) (λ _ g. h area g) (midOf (area * lines) (area * lines + lines - area * lines) now)
+    → Rewritten ((area + 1) * lines) (λ at g. h (at / lines) g) xs (putMid (area * lines) (area * lines + lines - area * lines) now ys)
+area-more lines areas area h xs now ys b room done e =
+    let k : area * lines + lines - area * lines ≡ lines = omega arith in
+    let next : area * lines + (area * lines + lines - area * lines) ≡ (area + 1) * lines = omega (arith, suc-mul area lines) in
+    rw next at (rewrite-part {f = λ at g. h (at / lines) g} (area * lines) (area * lines + lines - area * lines) (h area) done
+    (omega (arith, area-within lines areas area (length xs) b room)) (λ j x c. ap (λ (a : ℕ). h a x) (sym (digits-div area (omega (arith, k, c))))) ys e)
+
+-- At the start none are, and at the end all.
+pub areas-start : (lines : ℕ) (f : ℕ → ℕ → ℕ) (xs : List ℕ) → Rewritten (0 * lines) f xs xs
+areas-start lines f xs = rw (zero-mul lines) (rewrite-start f xs)
+
+pub areas-end : (lines areas area : ℕ) {f : ℕ → ℕ → ℕ} {xs now : List ℕ} → Rewritten (area * lines) f xs now → area ≤ areas → areas ≤ area → now ≡ rewrite (areas * lines) f xs
+areas-end lines areas area h a c =
+    let e : area ≡ areas = omega arith in
+    let d : area * lines ≡ areas * lines = ap (λ (n : ℕ). n * lines) e in
+    rewrite-end _ h (omega (arith, d)) (omega (arith, d))
 
 -- a bound that goes down, in the form in which the code has the tests
 pub lower-open : (k e : ℕ) → e ≡ 65535 → e ≡ lowerBound k e

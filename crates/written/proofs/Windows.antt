@@ -1,5 +1,5 @@
 -- The bits of a group whose index from OMF lies in a window, digit by digit. Assumes nothing.
-use mathlib.Core.Path.{_≡_, sym, _∙_, ap, ap₂, subst}
+use mathlib.Core.Path.{_≡_, refl, sym, _∙_, ap, ap₂, subst}
 use mathlib.Core.Bool.{Bool, false, _&&_, and-false, and-true}
 use mathlib.Core.Logic.{_⊎_, inl, inr, ⊎-elim}
 use Prim.Native.Nat.{ℕ, _+_, _-_, _*_, _/_, _%_, _^_, _≤_, _<_, min}
@@ -9,15 +9,16 @@ use borrow.Author.Tests.{le-leb, lt-leb, lt-ltb, le-ltb}
 use lib.Dec.{leb, ltb}
 use native.Mathlib.Omega.{arith}
 use lib.Arith.{digits-div, digits-mod, digits-lt}
-use lib.Pow.{pow-pos, pow-mono, pow-add}
+use lib.Pow.{pow-pos, pow-mono, pow-add, mod-mod-pow}
 use mir.Syntax.{w32}
 use mir.Val.{Fits}
 use Rattle.rules.proofs.Circle.{index-reaches}
 use Rattle.frames.specs.Circle.{indexOf}
 use Rattle.frames.specs.Digits.{digit, bit, rangeOf}
 use Rattle.frames.proofs.Circle.{index-below}
-use Rattle.frames.proofs.Digits.{digit-below, digit-from, digit-bit, bit-none, range-lt, range-under, range-over, range-in}
-use Rattle.written.specs.Bits.{firstIndex, beforeWrap, afterWrap, windowOf}
+use Rattle.frames.proofs.Digits.{digit-below, digit-from, digit-bit, bit-none, range-le, range-lt, range-under, range-over, range-in}
+use Rattle.written.specs.Bits.{firstIndex, beforeWrap, afterWrap, cutOf, windowOf}
+use Rattle.written.specs.Steps.{keptOf}
 
 -- two numbers with their digits on either side of a place add up digit by digit
 module _ (low k u : ℕ) (small : low < 2 ^ u) where
@@ -131,12 +132,12 @@ module _ (g s u from end : ℕ) (few : u ≤ 16) where
 -- A window keeps the digits of the frames whose index lies in it, and no other.
 module _ (n omf area g from end : ℕ) where
   pub window-small : windowOf n omf area g from end < 65536
-  unfolding windowOf
+  unfolding windowOf cutOf
   window-small = whole-small g (firstIndex n omf area) (min 16 (n - firstIndex n omf area)) from end (native.Mathlib.Nat.min-le-left 16 _)
 
   module _ (h : omf < n) (q : ℕ) (b : area * 16 + q < n) (c : q < 16) where
     pub window-in : from ≤ indexOf n omf (area * 16 + q) → indexOf n omf (area * 16 + q) < end → digit (windowOf n omf area g from end) q ≡ digit g q
-    unfolding windowOf firstIndex
+    unfolding windowOf cutOf firstIndex
     window-in a d =
         ⊎-elim
         (λ w. in-under g (s n omf area h) (u n omf area h) from end (native.Mathlib.Nat.min-le-left 16 _) q (w .0) (omega (arith, w .1)) (omega (arith, w .1)))
@@ -144,7 +145,7 @@ module _ (n omf area g from end : ℕ) where
         (index-cases n omf area h q b c)
 
     pub window-out : (indexOf n omf (area * 16 + q) < from) ⊎ (end ≤ indexOf n omf (area * 16 + q)) → digit (windowOf n omf area g from end) q ≡ 0
-    unfolding windowOf firstIndex
+    unfolding windowOf cutOf firstIndex
     window-out o =
         ⊎-elim
         (λ w. out-under g (s n omf area h) (u n omf area h) from end (native.Mathlib.Nat.min-le-left 16 _) q (w .0)
@@ -172,16 +173,54 @@ module _ (n omf area g from end : ℕ) where
             ∙ sym (drop _ (ap (λ (y : Bool). y && ltb (indexOf n omf (area * 16 + q)) end) (lt-leb from _ (omega arith))))
 
 -- A window in the form in which the code has its parts.
-pub window-told : (n omf area g from end s u a b : ℕ) → s ≡ indexOf n omf (area * 16) → u ≡ min 16 (n - s) → a ≡ beforeWrap g s u from end
-    → b ≡ afterWrap g u from end → a + b ≡ windowOf n omf area g from end
-unfolding windowOf firstIndex
-window-told n omf area g from end s u a b es eu ea eb = cc
+module _ (g s u from end : ℕ) where
+  pub cut-told : (a b : ℕ) → u ≤ 16 → a ≡ beforeWrap g s u from end → b ≡ afterWrap g u from end
+      → (a + b ≡ cutOf g s u from end) × (a + b < 65536)
+  unfolding cutOf
+  cut-told a b few ea eb =
+      let e : a + b ≡ cutOf g s u from end = cc in
+      (e, omega (arith, e, whole-small g s u from end few))
 
-pub window-fits : (n omf area g from end s u a b : ℕ) → s ≡ indexOf n omf (area * 16) → u ≡ min 16 (n - s) → a ≡ beforeWrap g s u from end
-    → b ≡ afterWrap g u from end → Fits w32 (a + b)
-window-fits n omf area g from end s u a b es eu ea eb =
-    record { fits = omega (arith, window-small n omf area g from end, window-told n omf area g from end s u a b es eu ea eb) }
+  pub cut-fits : (a b : ℕ) → u ≤ 16 → a ≡ beforeWrap g s u from end → b ≡ afterWrap g u from end → Fits w32 (a + b)
+  cut-fits a b few ea eb = record { fits = omega (arith, cut-told a b few ea eb .1) }
 
--- the same of a result that is a window
-pub small-window : (n omf area g from end r : ℕ) → r ≡ windowOf n omf area g from end → r < 65536
-small-window n omf area g from end r e = omega (arith, window-small n omf area g from end)
+  -- a group without bits has none in a window
+  pub cut-none : u ≤ 16 → g % 65536 ≡ 0 → cutOf g s u from end ≡ 0
+  unfolding cutOf beforeWrap afterWrap
+  cut-none few e =
+      ap₂ (λ (a b : ℕ). a + b) (none (min u (from - s)) (min u (end - s)) (omega arith)) (none (min 16 (from + u)) (min 16 (end + u)) (omega arith))
+    where
+      none : (lo hi : ℕ) → hi ≤ 16 → rangeOf g lo hi ≡ 0
+      none lo hi h =
+          let i : 16 - hi + hi ≡ 16 = omega arith in
+          let rest : g % 2 ^ hi ≡ 0 =
+          sym (mod-mod-pow g (16 - hi) hi) ∙ (ap (λ (n : ℕ). g % 2 ^ n % 2 ^ hi) i ∙ (ap (λ (n : ℕ). n % 2 ^ hi) e ∙ native.Mathlib.Nat.zero-mod (2 ^ hi)))
+          in
+          omega (arith, range-le g lo hi, rest)
+
+-- and one whose sixteen frames all lie in the window has them all
+all-of : (g : ℕ) → rangeOf g 0 16 + rangeOf g 16 16 ≡ g % 65536
+unfolding rangeOf
+all-of g = omega arith
+
+cut-all : (g s u from end : ℕ) → from ≤ s → u ≡ 16 → s + 16 ≤ end → cutOf g s u from end ≡ g % 65536
+unfolding cutOf beforeWrap afterWrap
+cut-all g s u from end a c d =
+    let lo : min u (from - s) ≡ 0 = omega arith in
+    let hi : min u (end - s) ≡ 16 = omega arith in
+    let over : min 16 (from + u) ≡ 16 = omega arith in
+    let past : min 16 (end + u) ≡ 16 = omega arith in
+    ap₂ (λ (x y : ℕ). x + y) (ap₂ (rangeOf g) lo hi) (ap₂ (rangeOf g) over past) ∙ all-of g
+
+module _ (n omf area g s u : ℕ) (es : (s ≡ firstIndex n omf area) × (s < n)) (eu : u ≡ min 16 (n - s)) where
+  pub window-told : (from end r : ℕ) → (r ≡ cutOf g s u from end) × (r < 65536) → r ≡ windowOf n omf area g from end
+  unfolding windowOf
+  window-told from end r e = cc
+
+  pub kept-told : (k r : ℕ) → r ≡ g / 65536 * 65536 + cutOf g s u k n → r ≡ keptOf n omf area k g
+  unfolding keptOf windowOf
+  kept-told k r e = cc
+
+  -- a group whose sixteen frames are all kept stays as it is
+  pub kept-all : (k : ℕ) → k ≤ s → u ≡ 16 → keptOf n omf area k g ≡ g
+  kept-all k a c = omega (arith, kept-told k _ refl, cut-all g s u k n a c (omega (arith, es .1)))

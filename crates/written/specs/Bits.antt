@@ -96,11 +96,14 @@ beforeWrap g s u from end = rangeOf g (min u (from - s)) (min u (end - s))
 unfoldable pub afterWrap : (g u from end : ℕ) → ℕ
 afterWrap g u from end = rangeOf g (min 16 (from + u)) (min 16 (end + u))
 
+-- The two together, by s and u, and by the area.
+unfoldable pub cutOf : (g s u from end : ℕ) → ℕ
+cutOf g s u from end = beforeWrap g s u from end + afterWrap g u from end
+
 unfoldable pub windowOf : (frames omf area g from end : ℕ) → ℕ
 windowOf frames omf area g from end =
     let s = firstIndex frames omf area in
-    let u = min 16 (frames - s) in
-    beforeWrap g s u from end + afterWrap g u from end
+    cutOf g s (min 16 (frames - s)) from end
 
 -- What the functions ask of the numbers and the lent lengths; the store tests it.
 pub record Lent (w : Written) : Type 0 where

@@ -8,7 +8,7 @@ use lib.ListN.{length, getD, set}
 use Rattle.frames.specs.Circle.{frameAt}
 use Rattle.frames.specs.Digits.{setAt}
 use Rattle.frames.specs.Lists.{rewrite}
-use Rattle.written.specs.Bits.{Written, writtenOf, placeOf, tagOf, tagged, boundOf, windowOf}
+use Rattle.written.specs.Bits.{Written, writtenOf, placeOf, tagged, boundOf, windowOf}
 
 -- The bits of a group that stand.
 unfoldable pub maskedOf : (frames omf area : ℕ) → (history : List ℕ) → ℕ → ℕ
@@ -44,10 +44,13 @@ unfoldable pub swept : Written → List ℕ
 swept w =
     rewrite (w .frames / 16 * w .lines) (λ at g. maskedOf (w .frames) (w .omf) (at / w .lines) (w .history) g) (w .groups)
 
+-- A group without the bits of the frames with an index below k; all else of it stays.
+unfoldable pub keptOf : (frames omf area k g : ℕ) → ℕ
+keptOf frames omf area k g = g / 65536 * 65536 + windowOf frames omf area g k frames
+
 -- The frames that an advance collects have no bit any more, in every line; the tags stay.
 unfoldable pub cleared : (lines frames omf k : ℕ) → List ℕ → List ℕ
-cleared lines frames omf k groups =
-    rewrite (frames / 16 * lines) (λ at g. tagged (tagOf g) (windowOf frames omf (at / lines) g k frames)) groups
+cleared lines frames omf k groups = rewrite (frames / 16 * lines) (λ at g. keptOf frames omf (at / lines) k g) groups
 
 -- A bound goes down with OMF, never below 0; that no rollback was is no bound.
 unfoldable pub lowerBound : (k bound : ℕ) → ℕ
@@ -78,7 +81,6 @@ pub record AsksWindow (frames omf area from end : ℕ) : Type 0 where
 
 -- What clearing and a reset ask.
 pub record AsksClear (lines frames omf k long : ℕ) : Type 0 where
-  pub lines-some : 0 < lines
   pub lines-few : lines ≤ 4096
   pub frames-few : frames ≤ 4096
   pub omf-below : omf < frames

@@ -7,8 +7,9 @@ ghost use lib.ListN;
 ghost use lib.ListN.{length, getD};
 ghost use Rattle.rules.specs.Seen.{needs};
 ghost use Rattle.frames.specs.Circle.{Turn, indexOf};
-ghost use Rattle.written.specs.Bits.{writtenOf, Lent, Asks, AsksBlock, Near, placeOf, tagOf, tagged, boundOf, effective, newestFrom, newestRun, newestInArea, downOf, upOf, standsIn, runHas, blockHas, beforeWrap, afterWrap, windowOf};
-ghost use Rattle.written.specs.Steps.{AsksWindow, AsksClear, AsksReset, regrouped, withWritten, Entered, swept, cleared, lowerBound, lowered, RolledBack, blanked};
+ghost use Rattle.frames.specs.Lists.{rewrite};
+ghost use Rattle.written.specs.Bits.{writtenOf, Lent, Asks, AsksBlock, Near, placeOf, boundOf, effective, newestFrom, newestRun, newestInArea, downOf, upOf, standsIn, runHas, blockHas, firstIndex, beforeWrap, afterWrap, cutOf, windowOf};
+ghost use Rattle.written.specs.Steps.{AsksWindow, AsksClear, AsksReset, regrouped, withWritten, Entered, maskedOf, swept, keptOf, cleared, lowerBound, lowered, RolledBack, blanked};
 
 // Where the group of a line in a working area stands.
 fn place_of(lines: u32, area: u32, line: u32) -> usize
@@ -57,7 +58,8 @@ fn newest_run(group: u32, bound: u32, place: u32, index: u32) -> Found
     }
 }
 
-// The newest effective bit of a line in the working area of an index, up to that index.
+// The newest effective bit of a line in the working area of an index, up to that index. The history is looked at only for a group with
+// bits.
 fn newest_in_area(
     groups: &[u32],
     history: &[u16],
@@ -72,6 +74,9 @@ fn newest_in_area(
 {
     let frame = frames::frame_at(index, omf, frames);
     let group = group_at(groups, lines, frame / 16, line);
+    if group % 65536 == 0 {
+        return Found::Nothing;
+    }
     let bound = bound_of(history, group);
     newest_run(group, bound, frame % 16, index)
 }
@@ -143,6 +148,9 @@ fn run_has(
 {
     let frame = frames::frame_at(index, omf, frames);
     let group = group_at(groups, lines, frame / 16, line);
+    if group % 65536 == 0 {
+        return false;
+    }
     let bound = bound_of(history, group);
     stands_in(
         group,
@@ -222,14 +230,31 @@ fn after_wrap(group: u32, u: u32, from: u32, end: u32) -> u32
     )
 }
 
+// The bits of a group whose index from OMF lies in a window: the first u frames of its area have the indexes from s on, the others those
+// from 0 on.
+fn cut(group: u32, s: u32, u: u32, from: u32, end: u32) -> u32
+    requires { ⌜ (u ≤ 16) × (from ≤ 65535) × (end ≤ 65535) ⌝ }
+    ensures { λ r. ⌜ (r ≡ cutOf group s u from end) × (r < 65536) ⌝ }
+{
+    before_wrap(group, s, u, from, end) + after_wrap(group, u, from, end)
+}
+
+// The index of the first frame of a working area.
+fn first_index(area: u32, omf: u32, frames: u32) -> u32
+    requires { ⌜ (omf < frames) × (area * 16 < frames) × (frames ≤ 4096) ⌝ }
+    ensures { λ r. ⌜ (r ≡ firstIndex frames omf area) × (r < frames) ⌝ }
+{
+    frames::index(area * 16, omf, frames)
+}
+
 // The bits of a group in an area whose index from OMF lies in a window.
 fn window(group: u32, area: u32, omf: u32, frames: u32, from: u32, end: u32) -> u32
     requires { ⌜ AsksWindow frames omf area from end ⌝ }
     ensures { λ r. ⌜ r ≡ windowOf frames omf area group from end ⌝ }
 {
-    let s = frames::index(area * 16, omf, frames);
+    let s = first_index(area, omf, frames);
     let u = frames::least(16, frames - s);
-    before_wrap(group, s, u, from, end) + after_wrap(group, u, from, end)
+    cut(group, s, u, from, end)
 }
 
 // A group with the bit of a frame set: masked by its bound first, with the current tag.
@@ -285,19 +310,44 @@ fn enter(history: &mut [u16], tag: u32, kept: u16)
     }
 }
 
-// Rewrites every group with the bits that stand, and tag 0.
+// The bits of a group that stand.
+fn masked(group: u32, history: &[u16], s: u32, u: u32) -> u32
+    requires { ⌜ (u ≤ 16) × (256 ≤ length (now history)) ⌝ }
+    ensures { λ r. ⌜ r ≡ cutOf group s u 0 (boundOf (now (history .entry)) group) ⌝ }
+{
+    if group % 65536 == 0 {
+        return 0;
+    }
+    let bound = bound_of(history, group);
+    cut(group, s, u, 0, bound)
+}
+
+// Rewrites the groups of a working area with the bits that stand, and tag 0.
+fn sweep_area(groups: &mut [u32], history: &[u16], area: u32, frames: u32, omf: u32)
+    requires { ⌜ (AsksWindow frames omf area 0 frames) × (256 ≤ length (now history)) ⌝ }
+    ensures { λ _. ⌜ now (groups .exit) ≡ rewrite (length (now (groups .entry))) (λ _ g. maskedOf frames omf area (now (history .entry)) g) (now (groups .entry)) ⌝ }
+{
+    let s = first_index(area, omf, frames);
+    let u = frames::least(16, frames - s);
+    let mut line = 0;
+    while line < groups.len() {
+        groups[line] = masked(groups[line], history, s, u);
+        line = line + 1;
+    }
+}
+
+// Rewrites every group so, working area by working area.
 fn sweep(groups: &mut [u32], history: &[u16], lines: u32, frames: u32, omf: u32)
     requires { ⌜ Lent (writtenOf lines frames omf (now groups) (now history)) ⌝ }
     ensures { λ _. ⌜ now (groups .exit) ≡ swept (writtenOf lines frames omf (now (groups .entry)) (now (history .entry))) ⌝ }
 {
-    let count = frames / 16 * lines;
-    let mut at = 0;
-    while at < count {
-        let place = at as usize;
-        let group = groups[place];
-        let bound = bound_of(history, group);
-        groups[place] = window(group, at / lines, omf, frames, 0, bound);
-        at = at + 1;
+    let areas = frames / 16;
+    let mut area = 0;
+    while area < areas {
+        let first = (area * lines) as usize;
+        let end = first + lines as usize;
+        sweep_area(&mut groups[first..end], history, area, frames, omf);
+        area = area + 1;
     }
 }
 
@@ -349,24 +399,42 @@ fn lower(history: &mut [u16], k: u16)
 }
 
 // A group without the bits of the frames with an index below k.
-fn without(group: u32, area: u32, omf: u32, frames: u32, k: u32) -> u32
-    requires { ⌜ AsksWindow frames omf area k frames ⌝ }
-    ensures { λ r. ⌜ r ≡ tagged (tagOf group) (windowOf frames omf area group k frames) ⌝ }
+fn without(group: u32, s: u32, u: u32, frames: u32, k: u32) -> u32
+    requires { ⌜ (u ≤ 16) × (k ≤ 65535) × (frames ≤ 65535) ⌝ }
+    ensures { λ r. ⌜ r ≡ group / 65536 * 65536 + cutOf group s u k frames ⌝ }
 {
-    group / 65536 % 256 * 65536 + window(group, area, omf, frames, k, frames)
+    group / 65536 * 65536 + cut(group, s, u, k, frames)
 }
 
-// Clears the bits of the frames with an index below k, in every line.
+// Clears the bits of the frames with an index below k in the groups of a working area, which is left alone if it has none of them.
+fn clear_area(groups: &mut [u32], area: u32, frames: u32, omf: u32, k: u32)
+    requires { ⌜ AsksWindow frames omf area k frames ⌝ }
+    ensures { λ _. ⌜ now (groups .exit) ≡ rewrite (length (now (groups .entry))) (λ _ g. keptOf frames omf area k g) (now (groups .entry)) ⌝ }
+{
+    let s = first_index(area, omf, frames);
+    let u = frames::least(16, frames - s);
+    if k <= s && u == 16 {
+        return;
+    }
+    let mut line = 0;
+    while line < groups.len() {
+        groups[line] = without(groups[line], s, u, frames, k);
+        line = line + 1;
+    }
+}
+
+// Clears them in every line, working area by working area.
 fn clear(groups: &mut [u32], lines: u32, frames: u32, omf: u32, k: u32)
     requires { ⌜ AsksClear lines frames omf k (length (now groups)) ⌝ }
     ensures { λ _. ⌜ now (groups .exit) ≡ cleared lines frames omf k (now (groups .entry)) ⌝ }
 {
-    let count = frames / 16 * lines;
-    let mut at = 0;
-    while at < count {
-        let place = at as usize;
-        groups[place] = without(groups[place], at / lines, omf, frames, k);
-        at = at + 1;
+    let areas = frames / 16;
+    let mut area = 0;
+    while area < areas {
+        let first = (area * lines) as usize;
+        let end = first + lines as usize;
+        clear_area(&mut groups[first..end], area, frames, omf, k);
+        area = area + 1;
     }
 }
 

@@ -1,6 +1,5 @@
 -- `cache::find` meets its contract. Assumes nothing.
 use Rattle.cache.proofs.Returns.{found-first, found-second, found-none}
-use Rattle.cache.proofs.Figure.{found-told}
 use borrow.Author.Needs.{needs}
 use Rattle.cache.proofs.find.Statement.{statement}
 use Rattle.cache.proofs.find.Tie as tie
@@ -15,16 +14,16 @@ is-at-requires : tie.Need-is-at-requires
 is-at-requires c κs = search needs
 
 returns : tie.Need-returns
-returns c = found-told _ _ _ (search found-first)
+returns c = search found-first
 
 is-at-requires-2 : tie.Need-is-at-requires-2
 is-at-requires-2 c κs = search needs
 
 returns-2 : tie.Need-returns-2
-returns-2 c = found-told _ _ _ (search found-second)
+returns-2 c = search found-second
 
 returns-3 : tie.Need-returns-3
-returns-3 c = found-told _ _ _ (search found-none)
+returns-3 c = search found-none
 
 pub find-spec : {M : Type 1} → statement M
 find-spec =

@@ -2,16 +2,16 @@
 use Prim.Native.Nat.{_-_}
 use Rattle.cache.proofs.Returns.{entry-room}
 use Rattle.frames.proofs.Lines.{Read, read-start, read-next, read-end}
-use Rattle.cache.specs.Entries.{bytesOf}
+use Rattle.cache.specs.Entries.{bytesIn}
 use borrow.Author.Needs.{needs}
 use Rattle.cache.proofs.line_at.Statement.{statement}
 use Rattle.cache.proofs.line_at.Tie as tie
 
 abbrev Inv-loop : tie.InvT-loop
-Inv-loop entry from bytes line₀ i₀ line i = Read bytes line₀ line from i
+Inv-loop bytes entry from line₀ i₀ line i = Read bytes line₀ line from i
 
 abbrev μ-loop : tie.MeasureT-loop
-μ-loop entry from bytes line₀ i₀ line i = 16 - i
+μ-loop bytes entry from line₀ i₀ line i = 16 - i
 
 mul-from : tie.Need-mul-from Inv-loop μ-loop
 mul-from c = search needs
@@ -22,8 +22,8 @@ loop-holds c = read-start _ _ _ (search (needs, entry-room)) (search needs)
 add-line : tie.Need-add-line Inv-loop μ-loop
 add-line c = search needs
 
-array-read-line : tie.Need-array-read-line Inv-loop μ-loop
-array-read-line c = search needs
+element-copy-out-line : tie.Need-element-copy-out-line Inv-loop μ-loop
+element-copy-out-line c = search needs
 
 array-write-line : tie.Need-array-write-line Inv-loop μ-loop
 array-write-line c = search needs
@@ -38,7 +38,7 @@ loop-again : tie.Need-loop-again Inv-loop μ-loop
 loop-again c = search read-next
 
 returns : tie.Need-returns Inv-loop μ-loop
-unfolding bytesOf
+unfolding bytesIn
 returns c = search read-end
 
 pub line-at-spec : {M : Type 1} → statement M
@@ -50,7 +50,7 @@ line-at-spec =
     mul-from
     loop-holds
     add-line
-    array-read-line
+    element-copy-out-line
     array-write-line
     add-i
     loop-less

@@ -12,10 +12,10 @@ enum-known-entry : tie.Need-enum-known-entry
 enum-known-entry c = search needs
 
 line-at-requires : tie.Need-line-at-requires
-line-at-requires c κs = found-below _ _ _ _ (c .before .before .before .find .ensures .0) (c .before .entry .given .1)
+line-at-requires c κs = (found-below _ _ _ _ _ (c .before .before .before .find .ensures) (c .before .entry .given .1), search needs)
 
 frame-of-requires : tie.Need-frame-of-requires
-frame-of-requires c κs = found-below _ _ _ _ (c .before .before .before .before .find .ensures .0) (c .before .before .entry .given .1)
+frame-of-requires c κs = found-below _ _ _ _ _ (c .before .before .before .before .find .ensures) (c .before .before .entry .given .1)
 
 enum-told : tie.Need-enum-told
 enum-told c = search needs
@@ -24,10 +24,10 @@ newest-requires : tie.Need-newest-requires
 newest-requires c κs = search needs
 
 returns : tie.Need-returns
-returns c = latest-hit _ _ _ _ _ _ _ _ _ (c .before .before .before .before .before .find .ensures .0) _ _ _ (c .before .before .before .entry .given .1) (c .before .line-at .ensures) (c .frame-of .ensures)
+returns c = latest-hit _ _ _ _ _ _ _ _ _ _ _ _ (c .before .before .before .before .before .find .ensures) _ _ _ (c .before .before .before .entry .given .1) (c .before .line-at .ensures) (c .frame-of .ensures)
 
 returns-2 : tie.Need-returns-2
-returns-2 c = latest-miss _ _ _ _ _ _ _ _ _ (c .before .before .before .find .ensures .0) _ (search needs) (c .newest .ensures)
+returns-2 c = latest-miss _ _ _ _ _ _ _ _ _ _ _ _ (c .before .before .before .find .ensures) _ (search needs) (c .newest .ensures)
 
 pub latest-spec : {M : Type 1} → statement M
 latest-spec =

@@ -26,8 +26,8 @@ cast-at c = search needs
 array-read-if1 : tie.Need-array-read-if1 Inv-loop μ-loop
 array-read-if1 c = search needs
 
-line-at-requires : tie.Need-line-at-requires Inv-loop μ-loop
-line-at-requires c κs = search needs
+bytes-of-requires : tie.Need-bytes-of-requires Inv-loop μ-loop
+bytes-of-requires c κs = search needs
 
 mul-is-recent : tie.Need-mul-is-recent Inv-loop μ-loop
 mul-is-recent c = search needs
@@ -46,7 +46,7 @@ is-recent-requires c κs = c .before .before .before .before .before .before .be
 
 returns : tie.Need-returns Inv-loop μ-loop
 returns c = (
-  entry-fails _ _ _ _ _ _ _ _ _ _ (c .before .before .line-at .ensures) (c .before .is-recent .ensures) (c .before .before .before .if1 .taken) (c .if2 .taken),
+  entry-fails _ _ _ _ _ _ _ (c .before .before .before .before .before .loop .inv .0) _ _ _ (c .before .before .bytes-of .ensures) (c .before .is-recent .ensures) (c .before .before .before .if1 .taken) (c .if2 .taken),
   c .before .before .before .before .before .loop .inv .0,
 )
 
@@ -61,8 +61,8 @@ loop-again c = (
   c .before .before .loop .inv .0,
   all-next _ _ (c .before .before .loop .inv .1)
       (elim (c .if1 .came) [
-        | inl t ↦ entry-passes _ _ _ _ _ _ _ _ _ _ (t .1 .ensures) (t .2 .ensures) (t .3 .left)
-        | inr t ↦ not-valid _ _ _ _ _ _ _ _ (t .left)
+        | inl t ↦ entry-passes _ _ _ _ _ _ _ (c .before .before .loop .inv .0) _ _ _ (t .1 .ensures) (t .2 .ensures) (t .3 .left)
+        | inr t ↦ not-valid _ _ _ _ _ _ _ (c .before .before .loop .inv .0) _ (t .left)
       ]),
 )
 
@@ -81,7 +81,7 @@ coherent-spec =
     loop-holds
     cast-at
     array-read-if1
-    line-at-requires
+    bytes-of-requires
     mul-is-recent
     array-read-is-recent
     mul-is-recent-2

@@ -1,70 +1,74 @@
 -- `written::clear` meets its contract. Assumes nothing.
-use Prim.Native.Nat.{_-_, _/_, _≤_}
+use Prim.Native.Nat.{_-_, _*_, _/_, _≤_}
 use borrow.Author.Needs.{needs}
 use native.Mathlib.Omega.{arith}
-use Rattle.written.specs.Bits.{tagged, tagOf, windowOf}
-use Rattle.written.specs.Steps.{cleared}
-use Rattle.frames.proofs.Lists.{Rewritten, rewrite-start, rewrite-more, rewrite-end}
-use Rattle.written.proofs.Sweeping.{count-few, area-of-place}
+use Rattle.written.specs.Steps.{keptOf, cleared}
+use Rattle.frames.proofs.Lists.{Rewritten}
+use Rattle.written.proofs.Sweeping.{place-few, area-within, area-more, areas-end, areas-start}
 use Rattle.written.proofs.clear.Statement.{statement}
 use Rattle.written.proofs.clear.Tie as tie
 
 abbrev Inv-loop : tie.InvT-loop
-Inv-loop groups₀ lines frames omf k count at₀ groups at =
-    (at ≤ count) × Rewritten at (λ at g. tagged (tagOf g) (windowOf frames omf (at / lines) g k frames)) groups₀ groups
+Inv-loop groups₀ lines frames omf k areas area₀ groups area =
+    (area ≤ areas) × Rewritten (area * lines) (λ at g. keptOf frames omf (at / lines) k g) groups₀ groups
 
 abbrev μ-loop : tie.MeasureT-loop
-μ-loop groups₀ lines frames omf k count at₀ groups at = count - at
-
-mul-count : tie.Need-mul-count Inv-loop μ-loop
-mul-count c = omega (arith, count-few _ _ (c .before .pre .lines-few) (c .before .pre .frames-few))
+μ-loop groups₀ lines frames omf k areas area₀ groups area =
+    areas - area
 
 loop-holds : tie.Need-loop-holds Inv-loop μ-loop
-loop-holds c = (omega arith, rewrite-start _ _)
+loop-holds c = (omega arith, areas-start _ _ _)
 
-cast-place : tie.Need-cast-place Inv-loop μ-loop
-cast-place c = search needs
+mul-first : tie.Need-mul-first Inv-loop μ-loop
+mul-first c = omega (arith, place-few _ _ _ (c .before .before .before .pre .lines-few) (c .before .before .before .pre .frames-few) (c .loop-test .taken))
 
-mul-without : tie.Need-mul-without Inv-loop μ-loop
-mul-without c = omega arith
+cast-first : tie.Need-cast-first Inv-loop μ-loop
+cast-first c = omega (arith, place-few _ _ _ (c .before .before .before .pre .lines-few) (c .before .before .before .pre .frames-few) (c .loop-test .taken))
 
-slice-read-without : tie.Need-slice-read-without Inv-loop μ-loop
-slice-read-without c = omega arith
+add-end : tie.Need-add-end Inv-loop μ-loop
+add-end c = omega (arith, place-few _ _ _ (c .before .before .before .pre .lines-few) (c .before .before .before .pre .frames-few) (c .loop-test .taken))
 
-div-without : tie.Need-div-without Inv-loop μ-loop
-div-without c = omega arith
+mul-clear-area : tie.Need-mul-clear-area Inv-loop μ-loop
+mul-clear-area c = omega (arith, place-few _ _ _ (c .before .before .before .pre .lines-few) (c .before .before .before .pre .frames-few) (c .loop-test .taken))
 
-without-requires : tie.Need-without-requires Inv-loop μ-loop
-without-requires c κs =
+sub-clear-area : tie.Need-sub-clear-area Inv-loop μ-loop
+sub-clear-area c = omega arith
+
+part-clear-area-start : tie.Need-part-clear-area-start Inv-loop μ-loop
+part-clear-area-start c = search needs
+
+part-clear-area-end : tie.Need-part-clear-area-end Inv-loop μ-loop
+part-clear-area-end c = omega (arith, area-within _ _ _ _ (c .loop-test .taken) (c .before .before .before .pre .groups-long))
+
+clear-area-requires : tie.Need-clear-area-requires Inv-loop μ-loop
+clear-area-requires c κs =
     record {
       omf-below = c .before .before .before .before .pre .omf-below;
-      area-below = area-of-place _ _ _ (c .before .before .before .before .pre .lines-some) (c .before .loop-test .taken);
+      area-below = omega arith;
       frames-few = c .before .before .before .before .pre .frames-few;
       from-few = omega arith;
       end-few = omega arith;
     }
 
-mul-groups : tie.Need-mul-groups Inv-loop μ-loop
-mul-groups c = omega arith
-
-slice-write-groups : tie.Need-slice-write-groups Inv-loop μ-loop
-slice-write-groups c = omega arith
-
-add-at : tie.Need-add-at Inv-loop μ-loop
-add-at c = omega (arith, count-few _ _ (c .before .before .before .before .before .pre .lines-few) (c .before .before .before .before .before .pre .frames-few))
+add-area : tie.Need-add-area Inv-loop μ-loop
+add-area c = omega arith
 
 loop-less : tie.Need-loop-less Inv-loop μ-loop
 loop-less c = omega arith
 
 loop-again : tie.Need-loop-again Inv-loop μ-loop
-loop-again c = (omega arith, rewrite-more _ (c .before .before .before .loop .inv .1) (c .without .ensures))
+loop-again c = (
+  omega arith,
+  area-more _ _ _ (λ a g. keptOf (c .before .before .before .before .before .before .before .args .frames) (c .before .before .before .before .before .before .before .args .omf) a (c .before .before .before .before .before .before .before .args .k) g)
+      _ _ _ (c .before .before .before .before .loop-test .taken) (c .before .before .before .before .before .before .before .pre .groups-long) (c .before .before .before .before .before .loop .inv .1) (c .before .before .clear-area .ensures),
+)
 
 same-length : tie.Need-same-length Inv-loop μ-loop
 same-length c = c .before .loop .inv .1 .long
 
 returns : tie.Need-returns Inv-loop μ-loop
 unfolding cleared
-returns c = rewrite-end _ (c .before .loop .inv .1) (omega arith) (omega arith)
+returns c = areas-end _ _ _ (c .before .loop .inv .1) (omega arith) (omega arith)
 
 pub clear-spec : {M : Type 1} → statement M
 clear-spec =
@@ -72,16 +76,16 @@ clear-spec =
     (tie.spec
     Inv-loop
     μ-loop
-    mul-count
     loop-holds
-    cast-place
-    mul-without
-    slice-read-without
-    div-without
-    without-requires
-    mul-groups
-    slice-write-groups
-    add-at
+    mul-first
+    cast-first
+    add-end
+    mul-clear-area
+    sub-clear-area
+    part-clear-area-start
+    part-clear-area-end
+    clear-area-requires
+    add-area
     loop-less
     loop-again
     same-length

@@ -1,7 +1,7 @@
 -- `written::run_has` meets its contract. Assumes nothing.
 use native.Mathlib.Omega.{arith}
 use Rattle.written.proofs.Areas.{asks-near}
-use Rattle.written.proofs.Blocks.{up-fits, run-is}
+use Rattle.written.proofs.Blocks.{up-fits, run-is, run-bare}
 use borrow.Author.Needs.{needs}
 use Rattle.written.proofs.run_has.Statement.{statement}
 use Rattle.written.proofs.run_has.Tie as tie
@@ -12,6 +12,9 @@ frame-at-requires c κs = search needs
 group-at-requires : tie.Need-group-at-requires
 group-at-requires c κs = asks-near _ _ _ _ (c .before .before .before .pre .0) (c .frame-at .ensures)
 
+returns : tie.Need-returns
+returns c = search run-bare
+
 bound-of-requires : tie.Need-bound-of-requires
 bound-of-requires c κs = search needs
 
@@ -19,10 +22,10 @@ run-up-requires : tie.Need-run-up-requires
 run-up-requires c κs = search needs
 
 stands-in-requires : tie.Need-stands-in-requires
-stands-in-requires c κs = (c .before .bound-of .ensures .1, up-fits _ _ _ _ _ _ (c .before .before .before .frame-at .ensures) (c .run-up .ensures), omega arith)
+stands-in-requires c κs = (c .before .bound-of .ensures .1, up-fits _ _ _ _ _ _ (c .before .before .before .before .frame-at .ensures) (c .run-up .ensures), omega arith)
 
-returns : tie.Need-returns
-returns c = search run-is
+returns-2 : tie.Need-returns-2
+returns-2 c = search run-is
 
 pub run-has-spec : {M : Type 1} → statement M
 run-has-spec =
@@ -30,7 +33,8 @@ run-has-spec =
     (tie.spec
     frame-at-requires
     group-at-requires
+    returns
     bound-of-requires
     run-up-requires
     stands-in-requires
-    returns)
+    returns-2)

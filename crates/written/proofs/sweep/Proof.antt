@@ -1,73 +1,76 @@
 -- `written::sweep` meets its contract. Assumes nothing.
-use Prim.Native.Nat.{_-_, _/_, _≤_}
+use Prim.Native.Nat.{_-_, _*_, _/_, _≤_}
 use borrow.Author.Needs.{needs}
 use native.Mathlib.Omega.{arith}
 use Rattle.written.specs.Steps.{maskedOf, swept}
-use Rattle.frames.proofs.Lists.{Rewritten, rewrite-start, rewrite-more, rewrite-end}
-use Rattle.written.proofs.Sweeping.{count-few, area-of-place, masked-told}
+use Rattle.frames.proofs.Lists.{Rewritten}
+use Rattle.written.proofs.Sweeping.{place-few, area-within, area-more, areas-end, areas-start}
 use Rattle.written.proofs.sweep.Statement.{statement}
 use Rattle.written.proofs.sweep.Tie as tie
 
 abbrev Inv-loop : tie.InvT-loop
-Inv-loop groups₀ history lines frames omf count at₀ groups at =
-    (at ≤ count) × Rewritten at (λ at g. maskedOf frames omf (at / lines) history g) groups₀ groups
+Inv-loop groups₀ history lines frames omf areas area₀ groups area =
+    (area ≤ areas) × Rewritten (area * lines) (λ at g. maskedOf frames omf (at / lines) history g) groups₀ groups
 
 abbrev μ-loop : tie.MeasureT-loop
-μ-loop groups₀ history lines frames omf count at₀ groups at = count - at
-
-mul-count : tie.Need-mul-count Inv-loop μ-loop
-mul-count c = omega (arith, count-few _ _ (c .before .before .pre .lines-few) (c .before .before .pre .frames-few))
+μ-loop groups₀ history lines frames omf areas area₀ groups area =
+    areas - area
 
 loop-holds : tie.Need-loop-holds Inv-loop μ-loop
-loop-holds c = (omega arith, rewrite-start _ _)
+loop-holds c = (omega arith, areas-start _ _ _)
 
-cast-place : tie.Need-cast-place Inv-loop μ-loop
-cast-place c = search needs
+mul-first : tie.Need-mul-first Inv-loop μ-loop
+mul-first c = omega (arith, place-few _ _ _ (c .before .before .before .before .pre .lines-few) (c .before .before .before .before .pre .frames-few) (c .loop-test .taken))
 
-mul-group : tie.Need-mul-group Inv-loop μ-loop
-mul-group c = omega arith
+cast-first : tie.Need-cast-first Inv-loop μ-loop
+cast-first c = omega (arith, place-few _ _ _ (c .before .before .before .before .pre .lines-few) (c .before .before .before .before .pre .frames-few) (c .loop-test .taken))
 
-slice-read-group : tie.Need-slice-read-group Inv-loop μ-loop
-slice-read-group c = omega arith
+add-end : tie.Need-add-end Inv-loop μ-loop
+add-end c = omega (arith, place-few _ _ _ (c .before .before .before .before .pre .lines-few) (c .before .before .before .before .pre .frames-few) (c .loop-test .taken))
 
-bound-of-requires : tie.Need-bound-of-requires Inv-loop μ-loop
-bound-of-requires c κs = search needs
+mul-sweep-area : tie.Need-mul-sweep-area Inv-loop μ-loop
+mul-sweep-area c = omega (arith, place-few _ _ _ (c .before .before .before .before .pre .lines-few) (c .before .before .before .before .pre .frames-few) (c .loop-test .taken))
 
-div-window : tie.Need-div-window Inv-loop μ-loop
-div-window c = omega arith
+sub-sweep-area : tie.Need-sub-sweep-area Inv-loop μ-loop
+sub-sweep-area c = omega arith
 
-window-requires : tie.Need-window-requires Inv-loop μ-loop
-window-requires c κs =
-    record {
-      omf-below = c .before .before .before .before .before .before .pre .omf-below;
-      area-below = area-of-place _ _ _ (c .before .before .before .before .before .before .pre .lines-some) (c .before .before .loop-test .taken);
-      frames-few = c .before .before .before .before .before .before .pre .frames-few;
-      from-few = omega arith;
-      end-few = omega (arith, c .bound-of .ensures .1);
-    }
+part-sweep-area-start : tie.Need-part-sweep-area-start Inv-loop μ-loop
+part-sweep-area-start c = search needs
 
-mul-groups : tie.Need-mul-groups Inv-loop μ-loop
-mul-groups c = omega arith
+part-sweep-area-end : tie.Need-part-sweep-area-end Inv-loop μ-loop
+part-sweep-area-end c = omega (arith, area-within _ _ _ _ (c .loop-test .taken) (c .before .before .before .before .pre .groups-long))
 
-slice-write-groups : tie.Need-slice-write-groups Inv-loop μ-loop
-slice-write-groups c = omega arith
+sweep-area-requires : tie.Need-sweep-area-requires Inv-loop μ-loop
+sweep-area-requires c κs = (
+  record {
+    omf-below = c .before .before .before .before .before .pre .omf-below;
+    area-below = omega arith;
+    frames-few = c .before .before .before .before .before .pre .frames-few;
+    from-few = omega arith;
+    end-few = omega arith;
+  },
+  c .before .before .before .before .before .pre .history-long,
+)
 
-add-at : tie.Need-add-at Inv-loop μ-loop
-add-at c = omega (arith, count-few _ _ (c .before .before .before .before .before .before .before .pre .lines-few) (c .before .before .before .before .before .before .before .pre .frames-few))
+add-area : tie.Need-add-area Inv-loop μ-loop
+add-area c = omega arith
 
 loop-less : tie.Need-loop-less Inv-loop μ-loop
 loop-less c = omega arith
 
 loop-again : tie.Need-loop-again Inv-loop μ-loop
-loop-again c =
-    (omega arith, rewrite-more _ (c .before .before .before .before .loop .inv .1) (masked-told _ _ _ _ _ _ _ (c .before .bound-of .ensures) (c .window .ensures)))
+loop-again c = (
+  omega arith,
+  area-more _ _ _ (λ a g. maskedOf (c .before .before .before .before .before .before .before .before .args .frames) (c .before .before .before .before .before .before .before .before .args .omf) a (c .before .before .before .before .before .before .before .before .args .history .now) g)
+      _ _ _ (c .before .before .before .before .loop-test .taken) (c .before .before .before .before .before .before .before .before .pre .groups-long) (c .before .before .before .before .before .loop .inv .1) (c .before .before .sweep-area .ensures),
+)
 
 same-length : tie.Need-same-length Inv-loop μ-loop
 same-length c = c .before .loop .inv .1 .long
 
 returns : tie.Need-returns Inv-loop μ-loop
 unfolding swept
-returns c = rewrite-end _ (c .before .loop .inv .1) (omega arith) (omega arith)
+returns c = areas-end _ _ _ (c .before .loop .inv .1) (omega arith) (omega arith)
 
 pub sweep-spec : {M : Type 1} → statement M
 sweep-spec =
@@ -75,17 +78,16 @@ sweep-spec =
     (tie.spec
     Inv-loop
     μ-loop
-    mul-count
     loop-holds
-    cast-place
-    mul-group
-    slice-read-group
-    bound-of-requires
-    div-window
-    window-requires
-    mul-groups
-    slice-write-groups
-    add-at
+    mul-first
+    cast-first
+    add-end
+    mul-sweep-area
+    sub-sweep-area
+    part-sweep-area-start
+    part-sweep-area-end
+    sweep-area-requires
+    add-area
     loop-less
     loop-again
     same-length

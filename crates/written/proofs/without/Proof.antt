@@ -1,6 +1,4 @@
 -- `written::without` meets its contract. Assumes nothing.
-use native.Mathlib.Omega.{arith}
-use Rattle.written.proofs.Windows.{small-window}
 use borrow.Author.Needs.{needs}
 use Rattle.written.proofs.without.Statement.{statement}
 use Rattle.written.proofs.without.Tie as tie
@@ -8,14 +6,14 @@ use Rattle.written.proofs.without.Tie as tie
 mul-result : tie.Need-mul-result
 mul-result c = search needs
 
-window-requires : tie.Need-window-requires
-window-requires c κs = search needs
+cut-requires : tie.Need-cut-requires
+cut-requires c κs = search needs
 
 add-result : tie.Need-add-result
-add-result c = omega (arith, small-window _ _ _ _ _ _ _ (c .window .ensures))
+add-result c = search needs
 
 returns : tie.Need-returns
-returns c = search needs
+returns c = cc
 
 pub without-spec : {M : Type 1} → statement M
-without-spec = tie.close (tie.spec mul-result window-requires add-result returns)
+without-spec = tie.close (tie.spec mul-result cut-requires add-result returns)

@@ -1,11 +1,11 @@
--- `store::line` meets its contract. Assumes nothing.
+-- `access::line` meets its contract. Assumes nothing.
 use borrow.Author.Needs.{needs}
 use native.Mathlib.Omega.{arith}
 use Rattle.storage.proofs.Admitting.{room-turn, room-lent}
 use Rattle.storage.proofs.Chains.{measured, line-room, line-spot}
 use Rattle.storage.proofs.Using.{line-refused, line-in-page, line-in-archive, page-end}
-use Rattle.store.proofs.line.Statement.{statement}
-use Rattle.store.proofs.line.Tie as tie
+use Rattle.access.proofs.line.Statement.{statement}
+use Rattle.access.proofs.line.Tie as tie
 
 measure-requires : tie.Need-measure-requires
 measure-requires c κs = search needs

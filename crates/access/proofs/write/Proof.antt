@@ -1,12 +1,12 @@
--- `store::write` meets its contract. Assumes nothing.
+-- `access::write` meets its contract. Assumes nothing.
 use mathlib.Core.Path.{sym, _∙_}
 use borrow.Author.Needs.{needs}
 use native.Mathlib.Omega.{arith}
 use Rattle.storage.proofs.Admitting.{room-turn, room-page}
 use Rattle.storage.proofs.Chains.{measured, write-room}
 use Rattle.storage.proofs.Storing.{write-refused, asks-write, write-full, write-done, write-left}
-use Rattle.store.proofs.write.Statement.{statement}
-use Rattle.store.proofs.write.Tie as tie
+use Rattle.access.proofs.write.Statement.{statement}
+use Rattle.access.proofs.write.Tie as tie
 
 measure-requires : tie.Need-measure-requires
 measure-requires c κs = search needs

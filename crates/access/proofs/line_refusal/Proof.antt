@@ -1,9 +1,9 @@
--- `store::line_refusal` meets its contract. Assumes nothing.
+-- `access::line_refusal` meets its contract. Assumes nothing.
 use borrow.Author.Needs.{needs}
 use Rattle.storage.proofs.Chains.{measured}
 use Rattle.storage.proofs.Looking.{companion}
-use Rattle.store.proofs.line_refusal.Statement.{statement}
-use Rattle.store.proofs.line_refusal.Tie as tie
+use Rattle.access.proofs.line_refusal.Statement.{statement}
+use Rattle.access.proofs.line_refusal.Tie as tie
 
 measure-requires : tie.Need-measure-requires
 measure-requires c κs = search needs

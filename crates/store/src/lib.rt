@@ -106,7 +106,7 @@ pub fn reset(
 
 // MARK: opens the next frame. Nothing is copied and nothing cleared.
 pub fn mark(
-    state: State,
+    mut state: State,
     archive: &[u8],
     pool: &[u8],
     groups: &[u32],
@@ -124,12 +124,9 @@ pub fn mark(
     if refusal != 0 {
         return Outcome { state, refusal };
     }
-    let held = state.cache;
     let next = (state.cmf + 1) % state.frames;
-    Outcome {
-        state: state_with(state, next, state.omf, state.tag, state.hint, held),
-        refusal: 0,
-    }
+    state.cmf = next;
+    Outcome { state, refusal: 0 }
 }
 
 // ROLLBACK: drops the k newest frames. No written bit is cleared, but for the sweep when the tags run out: the history masks them, and no

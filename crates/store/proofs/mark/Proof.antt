@@ -1,4 +1,5 @@
 -- `store::mark` meets its contract. Assumes nothing.
+use mathlib.Core.Path.{refl}
 use borrow.Author.Needs.{needs}
 use native.Mathlib.Omega.{arith}
 use Rattle.storage.proofs.Admitting.{admitted-room}
@@ -18,21 +19,18 @@ returns c = (mark-refused _ _ (measured _ _ _ _ _ _ _ (c .before .before .measur
 
 add-next : tie.Need-add-next
 add-next c =
-    let r = admitted-room _ _ _ _ _ _ (c .before .before .before .admit-mark .ensures) (c .before .before .if1 .left) in
+    let r = admitted-room _ _ _ _ _ _ (c .before .before .admit-mark .ensures) (c .before .if1 .left) in
     omega (arith, r .fits .cmf-below, r .good .frames-to)
 
 rem-next : tie.Need-rem-next
 rem-next c =
-    let r = admitted-room _ _ _ _ _ _ (c .before .before .before .before .admit-mark .ensures) (c .before .before .before .if1 .left) in
+    let r = admitted-room _ _ _ _ _ _ (c .before .before .before .admit-mark .ensures) (c .before .before .if1 .left) in
     omega (arith, r .fits .cmf-below)
-
-state-with-requires : tie.Need-state-with-requires
-state-with-requires c κs = search needs
 
 returns-2 : tie.Need-returns-2
 returns-2 c =
-    let p = mark-opens _ _ (measured _ _ _ _ _ _ _ (c .before .before .before .before .before .before .measure .ensures) (c .before .before .before .before .before .admit-mark .ensures)) (c .before .before .before .before .if1 .left) _ (c .state-with .ensures) in
+    let p = mark-opens _ _ (measured _ _ _ _ _ _ _ (c .before .before .before .before .measure .ensures) (c .before .before .before .admit-mark .ensures)) (c .before .before .if1 .left) _ refl in
     (p .0, λ z. p .1)
 
 pub mark-spec : {M : Type 1} → statement M
-mark-spec = tie.close (tie.spec measure-requires admit-mark-requires returns add-next rem-next state-with-requires returns-2)
+mark-spec = tie.close (tie.spec measure-requires admit-mark-requires returns add-next rem-next returns-2)

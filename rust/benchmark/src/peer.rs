@@ -1,0 +1,134 @@
+//! What every store in the benchmark does, and the replay of a list of calls on it.
+use crate::workload::{Op, Settings};
+use std::hint::black_box;
+use std::time::Instant;
+pub use vcm::Origin;
+
+/// A read's answer. Only ours and `chip-rust` tell the origin.
+#[derive(Clone, Copy, Debug, PartialEq, Eq)]
+pub struct Seen {
+    pub value: u32,
+    pub origin: Option<Origin>,
+}
+
+/// A store that can be marked and taken back. A replay is compiled for each of them: nobody pays for dynamic calls. Lists never hold a call
+/// that our store refuses, so a peer may end the program where it refuses one.
+pub trait Peer {
+    const NAME: &'static str;
+    fn new(settings: Settings) -> Self;
+    fn read(&mut self, width: u32, address: u32) -> Seen;
+    fn write(&mut self, width: u32, address: u32, value: u32);
+    fn mark(&mut self);
+    fn rollback(&mut self, k: u32);
+    fn advance(&mut self, k: u32);
+
+    #[inline(always)]
+    fn step(&mut self, op: Op) -> Option<Seen> {
+        match op {
+            Op::Read { width, address } => return Some(self.read(u32::from(width), address)),
+            Op::Write {
+                width,
+                address,
+                value,
+            } => self.write(u32::from(width), address, value),
+            Op::Mark => self.mark(),
+            Op::Rollback(k) => self.rollback(k),
+            Op::Advance(k) => self.advance(k),
+        }
+        None
+    }
+}
+
+impl Peer for vcm::Store {
+    const NAME: &'static str = "ours";
+
+    fn new(settings: Settings) -> Self {
+        vcm::Store::new(settings.lines, settings.frames, settings.pages).expect("good settings")
+    }
+
+    #[inline]
+    fn read(&mut self, width: u32, address: u32) -> Seen {
+        let reading = vcm::Store::read(self, width, address).expect("accepted");
+        Seen {
+            value: reading.value,
+            origin: Some(reading.origin),
+        }
+    }
+
+    #[inline]
+    fn write(&mut self, width: u32, address: u32, value: u32) {
+        vcm::Store::write(self, width, address, value).expect("accepted");
+    }
+
+    #[inline]
+    fn mark(&mut self) {
+        vcm::Store::mark(self).expect("accepted");
+    }
+
+    #[inline]
+    fn rollback(&mut self, k: u32) {
+        vcm::Store::rollback(self, k).expect("accepted");
+    }
+
+    #[inline]
+    fn advance(&mut self, k: u32) {
+        vcm::Store::advance(self, k).expect("accepted");
+    }
+}
+
+/// A fresh store with the first calls of a list behind it.
+pub fn warmed<P: Peer>(settings: Settings, ops: &[Op]) -> P {
+    let mut peer = P::new(settings);
+    for op in ops {
+        black_box(peer.step(*op));
+    }
+    peer
+}
+
+/// Calls that are timed together.
+const SLICE: usize = 1000;
+
+/// The nanoseconds that a list takes after the first `warm` calls, slice by slice, on a fresh store.
+pub fn timed<P: Peer>(settings: Settings, ops: &[Op], warm: usize) -> Vec<f64> {
+    let mut peer = warmed::<P>(settings, &ops[..warm]);
+    let slices = ops[warm..].chunks(SLICE).map(|slice| {
+        let start = Instant::now();
+        replay(&mut peer, slice);
+        start.elapsed().as_secs_f64() * 1e9
+    });
+    slices.collect()
+}
+
+#[inline(never)]
+pub fn replay<P: Peer>(peer: &mut P, ops: &[Op]) {
+    for op in ops {
+        if let Some(seen) = peer.step(*op) {
+            black_box(seen);
+        }
+    }
+}
+
+/// The answers of all reads of a list.
+pub fn answers<P: Peer>(settings: Settings, ops: &[Op]) -> Vec<Seen> {
+    let mut peer = P::new(settings);
+    ops.iter().filter_map(|op| peer.step(*op)).collect()
+}
+
+/// Compares a peer's answers with ours: every value, and every origin where the peer tells it.
+pub fn compare<P: Peer>(settings: Settings, ops: &[Op], ours: &[Seen]) -> Result<(), String> {
+    let theirs = answers::<P>(settings, ops);
+    let pairs = theirs.iter().zip(ours);
+    let differs = |(peer, our): &(&Seen, &Seen)| {
+        peer.value != our.value || peer.origin.is_some_and(|_| peer.origin != our.origin)
+    };
+    match pairs.enumerate().find(|(_, pair)| differs(pair)) {
+        Some((place, (peer, our))) => Err(format!(
+            "read {place} differs: ours {our:?}, {} {peer:?}",
+            P::NAME
+        )),
+        None if theirs.len() != ours.len() => {
+            Err(format!("{} answers {} reads", P::NAME, theirs.len()))
+        }
+        None => Ok(()),
+    }
+}

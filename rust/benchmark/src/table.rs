@@ -1,0 +1,218 @@
+//! The table of the benchmark: every workload on ours and on each peer, the slowest calls, and the bars.
+use crate::chip::Chip;
+use crate::latency::{self, Slowest};
+use crate::peer::{answers, compare, timed, Peer, Seen};
+use crate::plain::{Idle, UndoLog, WholeCopy};
+use crate::workload::{self, Settings, Workload};
+use crate::FINE;
+use vcm::Store;
+
+const REPEATS: usize = 15;
+/// Calls of a list that are timed beside SQLite, which is slow.
+#[cfg(sqlite)]
+const FEW: usize = 10_000;
+
+/// Ratios by workload and peer, as they were measured.
+#[derive(Default)]
+struct Table(Vec<(String, &'static str, f64)>);
+
+impl Table {
+    fn line(&mut self, workload: &str, peer: &'static str, ours: f64, theirs: f64) {
+        let ratio = ours / theirs;
+        println!("bench {workload} {peer} {ours:.1} {theirs:.1} {ratio:.4}");
+        self.0.push((workload.to_string(), peer, ratio));
+    }
+
+    /// The greatest ratio of a peer over the workloads asked for, if it was measured.
+    fn worst(&self, peer: &str, is_asked: impl Fn(&str) -> bool) -> Option<f64> {
+        let asked = |line: &&(String, &str, f64)| line.1 == peer && is_asked(&line.0);
+        self.0
+            .iter()
+            .filter(asked)
+            .map(|line| line.2)
+            .reduce(f64::max)
+    }
+}
+
+/// For each slice of the list the median of its replays; their sum, for each call. A pause of the scheduler spoils a slice of one replay only.
+fn per_call(replays: &[Vec<f64>], calls: usize) -> f64 {
+    let slices = (0..replays[0].len()).map(|slice| {
+        let mut times: Vec<f64> = replays.iter().map(|replay| replay[slice]).collect();
+        times.sort_by(f64::total_cmp);
+        times[times.len() / 2]
+    });
+    slices.sum::<f64>() / calls as f64
+}
+
+/// The times of a call of ours and of a peer's, replayed in turns, so that a busy spell of the machine meets both.
+fn pair<P: Peer>(list: &Workload, calls: usize) -> (f64, f64) {
+    let ops = list.prefix(calls);
+    let (mut ours, mut theirs) = (Vec::new(), Vec::new());
+    for _ in 0..REPEATS {
+        ours.push(timed::<Store>(list.settings, ops, list.warm));
+        theirs.push(timed::<P>(list.settings, ops, list.warm));
+    }
+    let calls = ops.len() - list.warm;
+    (per_call(&ours, calls), per_call(&theirs, calls))
+}
+
+fn beside<P: Peer>(table: &mut Table, list: &Workload) {
+    let (ours, theirs) = pair::<P>(list, usize::MAX / 2);
+    table.line(list.name, P::NAME, ours, theirs);
+}
+
+fn workloads() -> Vec<Workload> {
+    let fine = |pages| Settings { pages, ..FINE };
+    let small = Settings { lines: 512, ..FINE };
+    let deep = Settings {
+        frames: 256,
+        pages: 2048,
+        ..FINE
+    };
+    let full = Settings {
+        frames: 128,
+        pages: 2048,
+        ..FINE
+    };
+    vec![
+        workload::report("fine", FINE, 20, 200_000),
+        workload::report("coarse", fine(2048), 200, 200_000),
+        workload::report("small", small, 20, 200_000),
+        workload::deep(deep, 100_000),
+        workload::regenerate(fine(512), 200_000),
+        workload::full(full, 100_000),
+    ]
+}
+
+fn compare_all(list: &Workload) -> Result<(), String> {
+    let told = |error| format!("{}: {error}", list.name);
+    let ours = answers::<Store>(list.settings, &list.ops);
+    compare::<Chip>(list.settings, &list.ops, &ours).map_err(told)?;
+    compare::<UndoLog>(list.settings, &list.ops, &ours).map_err(told)?;
+    compare::<WholeCopy>(list.settings, &list.ops, &ours).map_err(told)?;
+    compare_sqlite(list, &ours).map_err(told)
+}
+
+#[cfg(sqlite)]
+fn compare_sqlite(list: &Workload, ours: &[Seen]) -> Result<(), String> {
+    let ops = list.prefix(FEW);
+    let reads = answers::<UndoLog>(list.settings, ops).len();
+    compare::<crate::sqlite::Sqlite>(list.settings, ops, &ours[..reads])
+}
+
+#[cfg(sqlite)]
+fn beside_sqlite(table: &mut Table, list: &Workload) {
+    let (ours, theirs) = pair::<crate::sqlite::Sqlite>(list, FEW);
+    table.line(list.name, "sqlite", ours, theirs);
+}
+
+#[cfg(sqlite)]
+fn head_sqlite() {
+    println!(
+        "# sqlite {}: the first {FEW} timed calls of each list, ours on the same",
+        crate::sqlite::version()
+    );
+}
+
+#[cfg(not(sqlite))]
+fn compare_sqlite(_: &Workload, _: &[Seen]) -> Result<(), String> {
+    Ok(())
+}
+
+#[cfg(not(sqlite))]
+fn beside_sqlite(_: &mut Table, _: &Workload) {}
+
+#[cfg(not(sqlite))]
+fn head_sqlite() {
+    println!("# sqlite is not installed");
+}
+
+fn slow_lines<P: Peer>(table: &mut Table, list: &Workload, ours: Slowest) {
+    let theirs = latency::slowest::<P>(list, REPEATS as u32);
+    let mut line = |call: &str, ours, theirs| {
+        table.line(&format!("latency/{call}"), P::NAME, ours, theirs);
+    };
+    line("mark", ours.mark, theirs.mark);
+    line("rollback", ours.rollback, theirs.rollback);
+    line("rollback-that-sweeps", ours.sweep, theirs.sweep);
+    line(
+        "rollback-with-sweeps-mean",
+        ours.amortised,
+        theirs.amortised,
+    );
+    line("advance", ours.advance, theirs.advance);
+    line("first-write", ours.first, theirs.first);
+}
+
+/// The slowest calls of `fine`, and rollbacks of 10,000 writes.
+fn latencies(table: &mut Table, fine: &Workload, long: &Workload) {
+    let replays = REPEATS as u32;
+    let ours = latency::slowest::<Store>(fine, replays);
+    slow_lines::<Chip>(table, fine, ours);
+    slow_lines::<UndoLog>(table, fine, ours);
+    slow_lines::<WholeCopy>(table, fine, ours);
+    let slowest = latency::slowest::<Store>(long, replays).rollback;
+    let slowest = slowest.max(ours.rollback);
+    let theirs = latency::slowest::<UndoLog>(long, replays).rollback;
+    table.line(LONG, UndoLog::NAME, slowest, theirs);
+}
+
+/// Our slowest rollback without sweep of all, beside the log's slowest after 10,000 writes.
+const LONG: &str = "latency/rollback-of-10000-writes";
+
+fn bars(table: &Table) {
+    let bar = |peer: &str, workload: &str, most: f64| {
+        let is_asked = |name: &str| name == workload || workload == "all";
+        if let Some(ratio) = table.worst(peer, is_asked) {
+            let verdict = if ratio <= most { "ok" } else { "MISSED" };
+            println!("bar {workload}/{peer} at most {most}: {ratio:.4} {verdict}");
+        }
+    };
+    bar("chip-rust", "fine", 4.0);
+    bar("chip-rust", "coarse", 4.0);
+    bar("chip-rust", "small", 4.0);
+    bar("whole-copy", "fine", 0.25);
+    bar("sqlite", "all", 0.02);
+    bar("undo-log", LONG, 0.1);
+    println!("# aims, for later: undo-log at most 4 and then 2, chip-rust at most 1.5; rust/account tells where our time goes");
+}
+
+pub fn run() -> Result<(), String> {
+    let lists = workloads();
+    let long = workload::long_rollbacks(
+        Settings {
+            pages: 1024,
+            ..FINE
+        },
+        210,
+        40,
+    );
+    for list in &lists {
+        println!("{}", list.heading());
+        compare_all(list)?;
+    }
+    compare_all(&long)?;
+    println!(
+        "# every value read is the same on ours and on each peer, and on chip-rust every origin"
+    );
+    head_sqlite();
+    println!("# bench: nanoseconds for each call of the list, medians of {REPEATS} replays in turns, taken for every thousand calls; ratio: ours over the peer's");
+    println!(
+        "# latency: the slowest single call, each call's time being the least of {REPEATS} replays, with {} ns of the clock's own",
+        latency::clock()
+    );
+    println!(
+        "# the replay itself, on a peer that does nothing: {:.1} ns a call of fine, part of every time below",
+        pair::<Idle>(&lists[0], usize::MAX / 2).1
+    );
+    let mut table = Table::default();
+    for list in &lists {
+        beside::<Chip>(&mut table, list);
+        beside::<UndoLog>(&mut table, list);
+        beside::<WholeCopy>(&mut table, list);
+        beside_sqlite(&mut table, list);
+    }
+    latencies(&mut table, &lists[0], &long);
+    bars(&table);
+    Ok(())
+}

@@ -1,0 +1,65 @@
+-- `cases::step` is safe and ends: no list changes its length. Assumes nothing.
+use mathlib.Core.Path.{_≡_, refl, _∙_}
+use Rattle.cases.proofs.step.Statement.{statement}
+use Rattle.cases.proofs.step.Tie as tie
+
+next-requires : tie.Need-next-requires
+next-requires c κs = tt
+
+call-requires : tie.Need-call-requires
+call-requires c κs = tt
+
+step-requires : tie.Need-step-requires
+step-requires c κs = tt
+
+deed-requires : tie.Need-deed-requires
+deed-requires c κs = tt
+
+judged-requires : tie.Need-judged-requires
+judged-requires c κs = tt
+
+print-end-requires : tie.Need-print-end-requires
+print-end-requires c κs = tt
+
+same-length : tie.Need-same-length
+same-length c = c .before .before .before .before .before .before .before .before .before .before .before .before .before .before .before .before .before .before .before .before .before .before .archive .given
+
+same-length-2 : tie.Need-same-length-2
+same-length-2 c = c .before .before .before .before .before .before .before .before .before .before .before .before .before .before .before .before .before .before .before .before .pool .given
+
+same-length-3 : tie.Need-same-length-3
+same-length-3 c = c .before .before .before .before .before .before .before .before .before .before .before .before .before .before .before .before .before .before .groups .given
+
+same-length-4 : tie.Need-same-length-4
+same-length-4 c = c .before .before .before .before .before .before .before .before .before .before .before .before .before .before .before .before .table .given
+
+same-length-5 : tie.Need-same-length-5
+same-length-5 c = c .before .before .before .before .before .before .before .before .before .before .before .before .before .before .owners .given
+
+same-length-6 : tie.Need-same-length-6
+same-length-6 c = c .before .before .before .before .before .before .before .before .before .before .before .before .history .given
+
+same-length-7 : tie.Need-same-length-7
+same-length-7 c = c .before .before .before .before .before .before .before .before .memory .given
+
+returns : tie.Need-returns
+returns c = tt
+
+pub step-spec : {M : Type 1} → statement M
+step-spec =
+    tie.close
+    (tie.spec
+    next-requires
+    call-requires
+    step-requires
+    deed-requires
+    judged-requires
+    print-end-requires
+    same-length
+    same-length-2
+    same-length-3
+    same-length-4
+    same-length-5
+    same-length-6
+    same-length-7
+    returns)

@@ -1,0 +1,57 @@
+-- `copies::newest` is safe and ends. Assumes nothing.
+use borrow.Author.Needs.{needs}
+use native.Mathlib.Omega.{arith}
+use mathlib.Core.Path.{_≡_}
+use Prim.Native.Nat.{_-_, _≤_}
+use lib.ListN.{length}
+use Rattle.copies.proofs.memory.newest.Statement.{statement}
+use Rattle.copies.proofs.memory.newest.Tie as tie
+
+abbrev Inv-loop : tie.InvT-loop
+Inv-loop memory lines live line back₀ back = back ≤ live
+
+abbrev μ-loop : tie.MeasureT-loop
+μ-loop memory lines live line back₀ back = live - back
+
+loop-holds : tie.Need-loop-holds Inv-loop μ-loop
+loop-holds c = search needs
+
+sub-bits : tie.Need-sub-bits Inv-loop μ-loop
+sub-bits c = search needs
+
+bits-requires : tie.Need-bits-requires Inv-loop μ-loop
+bits-requires c κs = tt
+
+shr-if1 : tie.Need-shr-if1 Inv-loop μ-loop
+shr-if1 c = search needs
+
+returns : tie.Need-returns Inv-loop μ-loop
+returns c = search needs
+
+add-back : tie.Need-add-back Inv-loop μ-loop
+add-back c = search needs
+
+loop-less : tie.Need-loop-less Inv-loop μ-loop
+loop-less c = search needs
+
+loop-again : tie.Need-loop-again Inv-loop μ-loop
+loop-again c = search needs
+
+returns-2 : tie.Need-returns-2 Inv-loop μ-loop
+returns-2 c = search needs
+
+pub newest-spec : {M : Type 1} → statement M
+newest-spec =
+    tie.close
+    (tie.spec
+    Inv-loop
+    μ-loop
+    loop-holds
+    sub-bits
+    bits-requires
+    shr-if1
+    returns
+    add-back
+    loop-less
+    loop-again
+    returns-2)

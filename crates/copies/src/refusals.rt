@@ -1,0 +1,115 @@
+// Why the plain store turns a call down: the first reason in the document's order.
+use crate::ADVANCE;
+use crate::Call;
+use crate::LINE;
+use crate::MARK;
+use crate::Plain;
+use crate::READ;
+use crate::RESET;
+use crate::ROLLBACK;
+use crate::WRITE;
+use crate::memory;
+use std::num::wrapping_add_usize;
+
+// 4, and 6 for RESET
+fn of_settings(lines: u32, frames: u32, pages: u32, lent: u32) -> usize {
+    if lines % 8 != 0 || lines < 8 || lines > 4096 {
+        return 4;
+    }
+    if frames % 16 != 0 || frames < 16 || frames > 256 {
+        return 4;
+    }
+    if pages < 1 || pages > 4096 {
+        return 4;
+    }
+    if lent == 1 || lent == 2 {
+        return 6;
+    }
+    0
+}
+
+// 7, 8, 9
+fn of_place(lines: usize, width: usize, address: usize) -> usize {
+    if width != 1 && width != 2 && width != 4 {
+        return 7;
+    }
+    if width == 2 && address % 2 != 0 {
+        return 8;
+    }
+    if width == 4 && address % 4 != 0 {
+        return 8;
+    }
+    if wrapping_add_usize(address, width) > memory::times(16, lines) {
+        return 9;
+    }
+    0
+}
+
+// 7, 8, 9, 10, 13
+fn of_write(memory: &[u32], plain: Plain, width: usize, address: usize, n: usize) -> usize {
+    let place = of_place(plain.lines, width, address);
+    if place != 0 {
+        return place;
+    }
+    if width == 1 && n > 255 {
+        return 10;
+    }
+    if width == 2 && n > 65535 {
+        return 10;
+    }
+    if memory::is_needed(memory, plain.lines, plain.live, address / 16) {
+        return 0;
+    }
+    if memory::needed(memory, plain.lines, plain.live) < plain.pages {
+        return 0;
+    }
+    13
+}
+
+// 11: k is 0 or more than the live frames but one.
+fn of_frames(live: usize, k: usize) -> usize {
+    if k == 0 || k >= live {
+        return 11;
+    }
+    0
+}
+
+// A refusal where a test holds.
+fn only(refused: bool, refusal: usize) -> usize {
+    if refused {
+        return refusal;
+    }
+    0
+}
+
+// 7 to 13
+fn of_call(memory: &[u32], plain: Plain, call: Call) -> usize {
+    let a = call.a as usize;
+    let b = call.b as usize;
+    let kind = call.kind;
+    match kind {
+        WRITE => of_write(memory, plain, a, b, call.c as usize),
+        READ => of_place(plain.lines, a, b),
+        LINE => only(a >= plain.lines, 9),
+        MARK => only(plain.live == plain.frames, 12),
+        ROLLBACK | ADVANCE => of_frames(plain.live, a),
+        _ => 0,
+    }
+}
+
+// The refusal of a call, or 0.
+pub fn refusal(memory: &[u32], plain: Plain, call: Call) -> usize {
+    if call.kind == RESET {
+        return of_settings(call.a, call.b, call.c, call.lent);
+    }
+    if call.kind > crate::CHECK {
+        return 0;
+    }
+    if call.lent == 3 || plain.lines == 0 {
+        return 5;
+    }
+    if call.lent != 0 {
+        return 6;
+    }
+    of_call(memory, plain, call)
+}

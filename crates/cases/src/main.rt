@@ -1,16 +1,16 @@
 // Runs the document's cases at the edges and long pseudo-random runs on the store beside a second plain store, and compares every answer.
-mod choice;
-mod rows;
 mod subject;
 mod tally;
 
-use choice::Run;
+use choices::choice;
+use choices::choice::Run;
+use choices::rows;
+use choices::rows::Row;
 use copies::Answer;
 use copies::Call;
 use copies::Plain;
 use libc::STDIN_FILENO;
 use libc::STDOUT_FILENO;
-use rows::Row;
 use store::State;
 use tally::Tally;
 

@@ -1,7 +1,6 @@
 -- `cases::play` is safe and ends: no list changes its length. Assumes nothing.
 use Prim.Native.Nat.{_-_}
 use lib.ListN.{length}
-use borrow.Author.Needs.{needs}
 use native.Mathlib.Omega.{arith}
 use mathlib.Core.Path.{_≡_, refl, _∙_}
 use Rattle.cases.proofs.play.Statement.{statement}

@@ -1,5 +1,4 @@
 -- `cases::step` is safe and ends: no list changes its length. Assumes nothing.
-use mathlib.Core.Path.{_≡_, refl, _∙_}
 use Rattle.cases.proofs.step.Statement.{statement}
 use Rattle.cases.proofs.step.Tie as tie
 

@@ -1,9 +1,6 @@
 -- `cases::print_list` is safe and ends. Assumes nothing.
 use borrow.Author.Needs.{needs}
-use native.Mathlib.Omega.{arith}
-use mathlib.Core.Path.{_≡_}
 use Prim.Native.Nat.{_-_, _≤_}
-use lib.ListN.{length}
 use Rattle.cases.proofs.tally.print_list.Statement.{statement}
 use Rattle.cases.proofs.tally.print_list.Tie as tie
 

@@ -1,8 +1,7 @@
 -- `copies::clear` is safe and ends. Assumes nothing.
 use borrow.Author.Needs.{needs}
-use native.Mathlib.Omega.{arith}
 use mathlib.Core.Path.{_≡_}
-use Prim.Native.Nat.{_-_, _≤_}
+use Prim.Native.Nat.{_-_}
 use lib.ListN.{length}
 use Rattle.copies.proofs.memory.clear.Statement.{statement}
 use Rattle.copies.proofs.memory.clear.Tie as tie

@@ -1,8 +1,7 @@
 -- `copies::copy` is safe and ends. Assumes nothing.
 use borrow.Author.Needs.{needs}
-use native.Mathlib.Omega.{arith}
 use mathlib.Core.Path.{_≡_}
-use Prim.Native.Nat.{_-_, _≤_}
+use Prim.Native.Nat.{_-_}
 use lib.ListN.{length}
 use Rattle.copies.proofs.memory.copy.Statement.{statement}
 use Rattle.copies.proofs.memory.copy.Tie as tie

@@ -1,9 +1,6 @@
 -- `copies::newest` is safe and ends. Assumes nothing.
 use borrow.Author.Needs.{needs}
-use native.Mathlib.Omega.{arith}
-use mathlib.Core.Path.{_≡_}
 use Prim.Native.Nat.{_-_, _≤_}
-use lib.ListN.{length}
 use Rattle.copies.proofs.memory.newest.Statement.{statement}
 use Rattle.copies.proofs.memory.newest.Tie as tie
 

@@ -1,0 +1,3 @@
+// The calls of a test: rows of text, and pseudo-random runs.
+pub mod choice;
+pub mod rows;

@@ -13,13 +13,12 @@ enum { ROOMS = 8, FRAMES = 16, PAGES = 4 };
 static vcm_state state;
 static vcm_memory memory;
 
-/* The state of a call that the plan cannot do without. */
-static void go_on(vcm_outcome r) {
-    if (r.refusal != VCM_OK) {
-        fprintf(stderr, "refusal %u\n", (unsigned)r.refusal);
+/* For a call that the plan cannot do without. */
+static void go_on(uint32_t refusal) {
+    if (refusal != VCM_OK) {
+        fprintf(stderr, "refusal %u\n", (unsigned)refusal);
         exit(1);
     }
-    state = r.state;
 }
 
 /* Any contents will do, but they must be some: fresh memory that was never written has none in C. */
@@ -47,17 +46,17 @@ static void start(void) {
     memory.owners_len = need.owners / sizeof *memory.owners;
     memory.history = lent(need.history);
     memory.history_len = need.history / sizeof *memory.history;
-    go_on(vcm_reset(vcm_blank(), VCM_LENT(memory), ROOMS, FRAMES, PAGES));
+    state = vcm_blank();
+    go_on(vcm_reset(&state, &memory, ROOMS, FRAMES, PAGES));
 }
 
 static void place(uint32_t room, uint32_t hour, uint32_t lesson) {
-    go_on(vcm_write(state, VCM_LENT(memory), 2, 16 * room + 2 * hour, lesson));
+    go_on(vcm_write(&state, &memory, 2, 16 * room + 2 * hour, lesson));
     printf("place lesson %u in room %u at hour %u\n", (unsigned)lesson, (unsigned)room, (unsigned)hour);
 }
 
 static void show(uint32_t room, uint32_t hour) {
-    vcm_reading r = vcm_read(state, VCM_LENT(memory), 2, 16 * room + 2 * hour);
-    state = r.state;
+    vcm_reading r = vcm_read(&state, &memory, 2, 16 * room + 2 * hour);
     printf("room %u at hour %u: lesson %u, ", (unsigned)room, (unsigned)hour, (unsigned)r.value);
     switch (r.origin) {
     case VCM_CACHE:
@@ -73,7 +72,7 @@ static void show(uint32_t room, uint32_t hour) {
 
 static void show_room(uint32_t room) {
     uint8_t bytes[16] = {0};
-    vcm_line(state, VCM_LENT(memory), room, bytes);
+    vcm_line(&state, &memory, room, bytes);
     printf("room %u: [%u", (unsigned)room, (unsigned)bytes[0]);
     for (int i = 1; i < 16; i++) {
         printf(", %u", (unsigned)bytes[i]);
@@ -88,29 +87,35 @@ int main(void) {
     place(2, 0, 201);
 
     puts("mark, and try two lessons");
-    go_on(vcm_mark(state, VCM_LENT(memory)));
+    go_on(vcm_mark(&state, &memory));
     place(1, 1, 305);
     place(3, 2, 306);
     show(1, 1);
     show(3, 2);
 
     puts("take them back");
-    go_on(vcm_rollback(state, VCM_LENT(memory), 1));
+    go_on(vcm_rollback(&state, &memory, 1));
     show(1, 1);
     show(3, 2);
 
     puts("mark, try another, and keep it");
-    go_on(vcm_mark(state, VCM_LENT(memory)));
+    go_on(vcm_mark(&state, &memory));
     place(3, 2, 307);
-    go_on(vcm_mark(state, VCM_LENT(memory)));
-    go_on(vcm_advance(state, VCM_LENT(memory), 2));
+    go_on(vcm_mark(&state, &memory));
+    go_on(vcm_advance(&state, &memory, 2));
     show(3, 2);
-    vcm_outcome back = vcm_rollback(state, VCM_LENT(memory), 1);
-    if (back.refusal != VCM_OK) {
-        printf("no mark is left: refusal %u\n", (unsigned)back.refusal);
+    uint32_t refusal = vcm_rollback(&state, &memory, 1);
+    if (refusal != VCM_OK) {
+        printf("no mark is left: refusal %u\n", (unsigned)refusal);
     }
-    vcm_counted counts = vcm_counts(state, VCM_LENT(memory));
+    vcm_counted counts = vcm_counts(&state, &memory);
     printf("live frames %u, pages %u\n", (unsigned)counts.live, (unsigned)counts.pages);
     show_room(1);
+    refusal = vcm_line_refusal(&state, &memory, 8);
+    if (refusal != VCM_OK) {
+        printf("there is no room 8: refusal %u\n", (unsigned)refusal);
+    }
+    vcm_verdict verdict = vcm_check(&state, &memory);
+    printf("well-formed: %s\n", verdict.yes ? "yes" : "no");
     return 0;
 }

@@ -12,7 +12,7 @@
  * state and lent memory untouched. It asks nothing of the state and of what the lent memory holds. What a caller owes is C's own:
  *   - each pointer is aligned for its type and points to as many elements as its length says; it is never NULL, also for length 0;
  *   - the elements, and the state, have been given some value, whatever it is: memory fresh from malloc has none, calloc's has;
- *   - the six pieces, and LINE's bytes, do not overlap;
+ *   - the state, the six pieces and LINE's bytes do not overlap;
  *   - no other thread touches them during a call.
  */
 #ifndef VCM_H
@@ -53,8 +53,8 @@ extern "C" {
 
 /* ---- Structs ----------------------------------------------------------------------------------------------------------------------
  *
- * They cross by value. No field is a bool or an enum: any bytes are a state. Treat the fields of a state as the library's own; they are
- * listed so that a state can be saved and looked at.
+ * No field is a bool or an enum: any bytes are a state. Treat the fields of a state as the library's own; they are listed so that a state
+ * can be saved and looked at.
  */
 
 /* The cache: 16 sets of two ways. The entry of a set's way is 2 x set + way. Size 752, alignment 4. */
@@ -66,8 +66,8 @@ typedef struct vcm_cache {
     uint8_t last[16];    /* 736: for each set, the way used last */
 } vcm_cache;
 
-/* The state of a store. Size 780, alignment 4. */
-typedef struct vcm_state {
+/* The settings and the registers of a store. Size 28, alignment 4. */
+typedef struct vcm_registers {
     uint32_t lines;  /*  0: L, or 0 in the blank state */
     uint32_t frames; /*  4: F */
     uint32_t pages;  /*  8: P */
@@ -75,7 +75,12 @@ typedef struct vcm_state {
     uint32_t omf;    /* 16: the oldest frame */
     uint32_t tag;    /* 20: the tag of the written bits set now */
     uint32_t hint;   /* 24: where the search for a free page starts */
-    vcm_cache cache; /* 28 */
+} vcm_registers;
+
+/* The state of a store. Size 780, alignment 4. */
+typedef struct vcm_state {
+    vcm_registers registers; /*  0 */
+    vcm_cache cache;         /* 28 */
 } vcm_state;
 
 /* What a store needs of each lent piece, in BYTES. Refused, every size is 0. Size 56, alignment 8. */
@@ -89,24 +94,17 @@ typedef struct vcm_need {
     size_t history;   /* 48: uint16_t, 512 */
 } vcm_need;
 
-/* The state after a call, and its refusal or 0. Refused, the state is the one given. Size 784, alignment 4. */
-typedef struct vcm_outcome {
-    vcm_state state;  /*   0 */
-    uint32_t refusal; /* 780 */
-} vcm_outcome;
-
 /* Where a line read was found. */
 #define VCM_ARCHIVE 0
 #define VCM_FRAME 1
 #define VCM_CACHE 2
 
-/* READ's answer. Refused, the value is 0 and the origin VCM_ARCHIVE. Size 796, alignment 4. */
+/* READ's answer. Refused, the value is 0 and the origin VCM_ARCHIVE. Size 16, alignment 4. */
 typedef struct vcm_reading {
-    vcm_state state;     /*   0: reading moves the cache, so the state is a new one */
-    uint32_t refusal;    /* 780 */
-    uint32_t value;      /* 784 */
-    uint32_t origin;     /* 788: VCM_ARCHIVE, VCM_FRAME or VCM_CACHE */
-    uint32_t marks_back; /* 792: for VCM_FRAME how many marks back the frame lies, 0 for the current one; else 0 */
+    uint32_t refusal;    /*  0 */
+    uint32_t value;      /*  4 */
+    uint32_t origin;     /*  8: VCM_ARCHIVE, VCM_FRAME or VCM_CACHE */
+    uint32_t marks_back; /* 12: for VCM_FRAME how many marks back the frame lies, 0 for the current one; else 0 */
 } vcm_reading;
 
 /* COUNTS' answer. Refused, both are 0. Size 12, alignment 4. */
@@ -124,17 +122,17 @@ typedef struct vcm_verdict {
 
 VCM_STATIC_ASSERT(sizeof(size_t) == 8, "libvcm.a is built for 64 bits");
 VCM_STATIC_ASSERT(sizeof(vcm_cache) == 752, "vcm_cache");
+VCM_STATIC_ASSERT(sizeof(vcm_registers) == 28, "vcm_registers");
 VCM_STATIC_ASSERT(sizeof(vcm_state) == 780, "vcm_state");
 VCM_STATIC_ASSERT(sizeof(vcm_need) == 56, "vcm_need");
-VCM_STATIC_ASSERT(sizeof(vcm_outcome) == 784, "vcm_outcome");
-VCM_STATIC_ASSERT(sizeof(vcm_reading) == 796, "vcm_reading");
+VCM_STATIC_ASSERT(sizeof(vcm_reading) == 16, "vcm_reading");
 VCM_STATIC_ASSERT(sizeof(vcm_counted) == 12, "vcm_counted");
 VCM_STATIC_ASSERT(sizeof(vcm_verdict) == 8, "vcm_verdict");
 
 /* ---- Lent memory ------------------------------------------------------------------------------------------------------------------
  *
  * Every call is lent all six pieces, each as a pointer and its length in ELEMENTS: the bytes of vcm_sizes over the size of an element. A
- * longer piece is fine, and what lies past the need is never touched. A piece that a call does not write is const there.
+ * longer piece is fine, and what lies past the need is never touched.
  */
 typedef struct vcm_memory {
     uint8_t *archive;
@@ -151,15 +149,10 @@ typedef struct vcm_memory {
     size_t history_len;
 } vcm_memory;
 
-/* The twelve arguments by which a vcm_memory is lent: vcm_mark(state, VCM_LENT(memory)). */
-#define VCM_LENT(m)                                                                                                    \
-    (m).archive, (m).archive_len, (m).pool, (m).pool_len, (m).groups, (m).groups_len, (m).table, (m).table_len,        \
-        (m).owners, (m).owners_len, (m).history, (m).history_len
-
 /* ---- Calls ------------------------------------------------------------------------------------------------------------------------
  *
  * A store is started by vcm_reset on any state and any lent contents, say vcm_blank(). Each later call gets the state and the lent memory
- * just as the call before it, refused or not, returned or left them.
+ * just as the call before it, refused or not, left them. The calls that give a uint32_t give their refusal or 0.
  */
 
 /* The sizing call: the exact need of each piece. Refused: 4. */
@@ -169,56 +162,154 @@ vcm_need vcm_sizes(uint32_t lines, uint32_t frames, uint32_t pages);
 vcm_state vcm_blank(void);
 
 /* RESET: archive all zero, one live frame, no written bits, all pages free, cache empty. Refused: 4, 6. */
-vcm_outcome vcm_reset(vcm_state state, uint8_t *archive, size_t archive_len, const uint8_t *pool, size_t pool_len, uint32_t *groups,
-                      size_t groups_len, const uint16_t *table, size_t table_len, const uint32_t *owners, size_t owners_len,
-                      uint16_t *history, size_t history_len, uint32_t lines, uint32_t frames, uint32_t pages);
+static inline uint32_t vcm_reset(vcm_state *state, const vcm_memory *memory, uint32_t lines, uint32_t frames, uint32_t pages);
 
 /* WRITE: width 1, 2 or 4 bytes, most significant byte first, to the current frame. Refused: 5, 6, 7, 8, 9, 10, 13. */
-vcm_outcome vcm_write(vcm_state state, const uint8_t *archive, size_t archive_len, uint8_t *pool, size_t pool_len, uint32_t *groups,
-                      size_t groups_len, uint16_t *table, size_t table_len, uint32_t *owners, size_t owners_len,
-                      const uint16_t *history, size_t history_len, uint32_t width, uint32_t address, uint32_t value);
+static inline uint32_t vcm_write(vcm_state *state, const vcm_memory *memory, uint32_t width, uint32_t address, uint32_t value);
 
-/* READ: the value and its origin. Refused: 5, 6, 7, 8, 9. */
-vcm_reading vcm_read(vcm_state state, const uint8_t *archive, size_t archive_len, const uint8_t *pool, size_t pool_len,
-                     const uint32_t *groups, size_t groups_len, const uint16_t *table, size_t table_len, const uint32_t *owners,
-                     size_t owners_len, const uint16_t *history, size_t history_len, uint32_t width, uint32_t address);
+/* READ: the value and its origin. The state's cache has the line afterwards. Refused: 5, 6, 7, 8, 9. */
+static inline vcm_reading vcm_read(vcm_state *state, const vcm_memory *memory, uint32_t width, uint32_t address);
 
 /* LINE: copies the 16 bytes of the line's most recent version; refused, they stay as they are. Changes nothing else, the cache included.
- * Gives its refusal or 0: 5, 6, 9. */
-uint32_t vcm_line(vcm_state state, const uint8_t *archive, size_t archive_len, const uint8_t *pool, size_t pool_len,
-                  const uint32_t *groups, size_t groups_len, const uint16_t *table, size_t table_len, const uint32_t *owners,
-                  size_t owners_len, const uint16_t *history, size_t history_len, uint32_t line, uint8_t bytes[16]);
+ * Refused: 5, 6, 9. */
+static inline uint32_t vcm_line(const vcm_state *state, const vcm_memory *memory, uint32_t line, uint8_t bytes[16]);
 
 /* LINE's companion: its refusal or 0, and no bytes. */
-uint32_t vcm_line_refusal(vcm_state state, const uint8_t *archive, size_t archive_len, const uint8_t *pool, size_t pool_len,
-                          const uint32_t *groups, size_t groups_len, const uint16_t *table, size_t table_len, const uint32_t *owners,
-                          size_t owners_len, const uint16_t *history, size_t history_len, uint32_t line);
+static inline uint32_t vcm_line_refusal(const vcm_state *state, const vcm_memory *memory, uint32_t line);
 
 /* MARK: opens the next frame, without written bits. Refused: 5, 6, 12. */
-vcm_outcome vcm_mark(vcm_state state, const uint8_t *archive, size_t archive_len, const uint8_t *pool, size_t pool_len,
-                     const uint32_t *groups, size_t groups_len, const uint16_t *table, size_t table_len, const uint32_t *owners,
-                     size_t owners_len, const uint16_t *history, size_t history_len);
+static inline uint32_t vcm_mark(vcm_state *state, const vcm_memory *memory);
 
 /* ROLLBACK: drops the k newest frames. The restored mark is used up. Refused: 5, 6, 11. */
-vcm_outcome vcm_rollback(vcm_state state, const uint8_t *archive, size_t archive_len, const uint8_t *pool, size_t pool_len,
-                         uint32_t *groups, size_t groups_len, const uint16_t *table, size_t table_len, const uint32_t *owners,
-                         size_t owners_len, uint16_t *history, size_t history_len, uint32_t k);
+static inline uint32_t vcm_rollback(vcm_state *state, const vcm_memory *memory, uint32_t k);
 
 /* ADVANCE: folds the k oldest frames into the archive, newest version of each line winning, and frees them. Refused: 5, 6, 11. */
-vcm_outcome vcm_advance(vcm_state state, uint8_t *archive, size_t archive_len, const uint8_t *pool, size_t pool_len, uint32_t *groups,
-                        size_t groups_len, const uint16_t *table, size_t table_len, const uint32_t *owners, size_t owners_len,
-                        uint16_t *history, size_t history_len, uint32_t k);
+static inline uint32_t vcm_advance(vcm_state *state, const vcm_memory *memory, uint32_t k);
 
 /* COUNTS: live frames, and pages needed. A page of a live frame is needed if a line in it was written there. Refused: 5, 6. */
-vcm_counted vcm_counts(vcm_state state, const uint8_t *archive, size_t archive_len, const uint8_t *pool, size_t pool_len,
-                       const uint32_t *groups, size_t groups_len, const uint16_t *table, size_t table_len, const uint32_t *owners,
-                       size_t owners_len, const uint16_t *history, size_t history_len);
+static inline vcm_counted vcm_counts(const vcm_state *state, const vcm_memory *memory);
 
 /* CHECK: yes exactly if state and lent memory are well-formed, as all storage reached from RESET is. On storage that CHECK rejects an
  * accepted call other than RESET and CHECK ends safely and its outcome is free. Refused: 5, 6. */
-vcm_verdict vcm_check(vcm_state state, const uint8_t *archive, size_t archive_len, const uint8_t *pool, size_t pool_len,
+static inline vcm_verdict vcm_check(const vcm_state *state, const vcm_memory *memory);
+
+/* ---- What the library exports -----------------------------------------------------------------------------------------------------
+ *
+ * The functions above hand the state and the memory to these in their parts: the registers by value, the arrays of the cache that a call
+ * looks at, and each lent piece as its pointer and length, const where the call does not write it. RESET and CHECK take the state by
+ * value. A language without C's headers declares these.
+ */
+
+/* The state after RESET, and its refusal or 0. Refused, the state is the one given. Size 784, alignment 4. */
+typedef struct vcm_outcome {
+    vcm_state state;  /*   0 */
+    uint32_t refusal; /* 780 */
+} vcm_outcome;
+
+/* The registers after a call, and its refusal or 0. Refused, they are the ones given. Size 32, alignment 4. */
+typedef struct vcm_step {
+    vcm_registers registers; /*  0 */
+    uint32_t refusal;        /* 28 */
+} vcm_step;
+
+VCM_STATIC_ASSERT(sizeof(vcm_outcome) == 784, "vcm_outcome");
+VCM_STATIC_ASSERT(sizeof(vcm_step) == 32, "vcm_step");
+
+vcm_outcome vcm_raw_reset(vcm_state state, uint8_t *archive, size_t archive_len, const uint8_t *pool, size_t pool_len,
+                          uint32_t *groups, size_t groups_len, const uint16_t *table, size_t table_len, const uint32_t *owners,
+                          size_t owners_len, uint16_t *history, size_t history_len, uint32_t lines, uint32_t frames,
+                          uint32_t pages);
+vcm_step vcm_raw_write(vcm_registers registers, uint32_t held[32], uint16_t origins[32], uint8_t valid[32], uint8_t bytes[512],
+                       uint8_t last[16], const uint8_t *archive, size_t archive_len, uint8_t *pool, size_t pool_len,
+                       uint32_t *groups, size_t groups_len, uint16_t *table, size_t table_len, uint32_t *owners, size_t owners_len,
+                       const uint16_t *history, size_t history_len, uint32_t width, uint32_t address, uint32_t value);
+vcm_reading vcm_raw_read(vcm_registers registers, uint32_t held[32], uint16_t origins[32], uint8_t valid[32], uint8_t bytes[512],
+                         uint8_t last[16], const uint8_t *archive, size_t archive_len, const uint8_t *pool, size_t pool_len,
+                         const uint32_t *groups, size_t groups_len, const uint16_t *table, size_t table_len, const uint32_t *owners,
+                         size_t owners_len, const uint16_t *history, size_t history_len, uint32_t width, uint32_t address);
+uint32_t vcm_raw_line(vcm_registers registers, const uint8_t *archive, size_t archive_len, const uint8_t *pool, size_t pool_len,
+                      const uint32_t *groups, size_t groups_len, const uint16_t *table, size_t table_len, const uint32_t *owners,
+                      size_t owners_len, const uint16_t *history, size_t history_len, uint32_t line, uint8_t bytes[16]);
+uint32_t vcm_raw_line_refusal(vcm_registers registers, const uint8_t *archive, size_t archive_len, const uint8_t *pool,
+                              size_t pool_len, const uint32_t *groups, size_t groups_len, const uint16_t *table, size_t table_len,
+                              const uint32_t *owners, size_t owners_len, const uint16_t *history, size_t history_len,
+                              uint32_t line);
+vcm_step vcm_raw_mark(vcm_registers registers, const uint8_t *archive, size_t archive_len, const uint8_t *pool, size_t pool_len,
                       const uint32_t *groups, size_t groups_len, const uint16_t *table, size_t table_len, const uint32_t *owners,
                       size_t owners_len, const uint16_t *history, size_t history_len);
+vcm_step vcm_raw_rollback(vcm_registers registers, const uint16_t origins[32], uint8_t valid[32], const uint8_t *archive,
+                          size_t archive_len, const uint8_t *pool, size_t pool_len, uint32_t *groups, size_t groups_len,
+                          const uint16_t *table, size_t table_len, const uint32_t *owners, size_t owners_len, uint16_t *history,
+                          size_t history_len, uint32_t k);
+vcm_step vcm_raw_advance(vcm_registers registers, uint16_t origins[32], uint8_t *archive, size_t archive_len, const uint8_t *pool,
+                         size_t pool_len, uint32_t *groups, size_t groups_len, const uint16_t *table, size_t table_len,
+                         const uint32_t *owners, size_t owners_len, uint16_t *history, size_t history_len, uint32_t k);
+vcm_counted vcm_raw_counts(vcm_registers registers, const uint8_t *archive, size_t archive_len, const uint8_t *pool,
+                           size_t pool_len, const uint32_t *groups, size_t groups_len, const uint16_t *table, size_t table_len,
+                           const uint32_t *owners, size_t owners_len, const uint16_t *history, size_t history_len);
+vcm_verdict vcm_raw_check(vcm_state state, const uint8_t *archive, size_t archive_len, const uint8_t *pool, size_t pool_len,
+                          const uint32_t *groups, size_t groups_len, const uint16_t *table, size_t table_len,
+                          const uint32_t *owners, size_t owners_len, const uint16_t *history, size_t history_len);
+
+/* ---- The inline functions ------------------------------------------------------------------------------------------------------- */
+
+/* The twelve arguments by which a memory is lent. */
+#define VCM_LENT(m)                                                                                                    \
+    (m)->archive, (m)->archive_len, (m)->pool, (m)->pool_len, (m)->groups, (m)->groups_len, (m)->table,                \
+        (m)->table_len, (m)->owners, (m)->owners_len, (m)->history, (m)->history_len
+
+/* The cache's five arrays. */
+#define VCM_CACHE_OF(s) (s)->cache.lines, (s)->cache.frames, (s)->cache.valid, (s)->cache.bytes, (s)->cache.last
+
+static inline uint32_t vcm_reset(vcm_state *state, const vcm_memory *memory, uint32_t lines, uint32_t frames, uint32_t pages) {
+    vcm_outcome r = vcm_raw_reset(*state, VCM_LENT(memory), lines, frames, pages);
+    *state = r.state;
+    return r.refusal;
+}
+
+static inline uint32_t vcm_write(vcm_state *state, const vcm_memory *memory, uint32_t width, uint32_t address, uint32_t value) {
+    vcm_step r = vcm_raw_write(state->registers, VCM_CACHE_OF(state), VCM_LENT(memory), width, address, value);
+    state->registers = r.registers;
+    return r.refusal;
+}
+
+static inline vcm_reading vcm_read(vcm_state *state, const vcm_memory *memory, uint32_t width, uint32_t address) {
+    return vcm_raw_read(state->registers, VCM_CACHE_OF(state), VCM_LENT(memory), width, address);
+}
+
+static inline uint32_t vcm_line(const vcm_state *state, const vcm_memory *memory, uint32_t line, uint8_t bytes[16]) {
+    return vcm_raw_line(state->registers, VCM_LENT(memory), line, bytes);
+}
+
+static inline uint32_t vcm_line_refusal(const vcm_state *state, const vcm_memory *memory, uint32_t line) {
+    return vcm_raw_line_refusal(state->registers, VCM_LENT(memory), line);
+}
+
+static inline uint32_t vcm_mark(vcm_state *state, const vcm_memory *memory) {
+    vcm_step r = vcm_raw_mark(state->registers, VCM_LENT(memory));
+    state->registers = r.registers;
+    return r.refusal;
+}
+
+static inline uint32_t vcm_rollback(vcm_state *state, const vcm_memory *memory, uint32_t k) {
+    vcm_step r = vcm_raw_rollback(state->registers, state->cache.frames, state->cache.valid, VCM_LENT(memory), k);
+    state->registers = r.registers;
+    return r.refusal;
+}
+
+static inline uint32_t vcm_advance(vcm_state *state, const vcm_memory *memory, uint32_t k) {
+    vcm_step r = vcm_raw_advance(state->registers, state->cache.frames, VCM_LENT(memory), k);
+    state->registers = r.registers;
+    return r.refusal;
+}
+
+static inline vcm_counted vcm_counts(const vcm_state *state, const vcm_memory *memory) {
+    return vcm_raw_counts(state->registers, VCM_LENT(memory));
+}
+
+static inline vcm_verdict vcm_check(const vcm_state *state, const vcm_memory *memory) {
+    return vcm_raw_check(*state, VCM_LENT(memory));
+}
 
 #ifdef __cplusplus
 }

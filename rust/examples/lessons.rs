@@ -49,5 +49,9 @@ fn main() -> Result<(), Refusal> {
     let counts = store.counts()?;
     println!("live frames {}, pages {}", counts.live, counts.pages);
     println!("room 1: {:?}", store.line(1)?);
+    if let Err(refusal) = store.line(8) {
+        println!("there is no room 8: refusal {}", refusal.number());
+    }
+    println!("well-formed: {}", if store.check()? { "yes" } else { "no" });
     Ok(())
 }

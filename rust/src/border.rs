@@ -1,4 +1,5 @@
-//! The proved library's C border, as it stands in its source: structs by value, a slice as pointer and length in elements.
+//! The proved library's C border, as it stands in its source: structs by value, an array as a pointer, a slice as pointer and length in
+//! elements.
 //!
 //! Nothing checks these declarations against the library. The assertions below fix the layout that both sides rely on; the suite
 //! compares every answer.
@@ -22,12 +23,10 @@ pub struct Cache {
     pub last: [u8; 16],
 }
 
-/// The state of a store: it goes into a call and comes back by value.
-///
-/// Any contents are safe: a call on a state that holds no store is refused.
+/// The settings and the registers of a store, part of the [`State`].
 #[repr(C)]
 #[derive(Clone, Copy, Debug, PartialEq, Eq)]
-pub struct State {
+pub struct Registers {
     /// L, the lines of 16 bytes.
     pub lines: u32,
     /// F, the frames of the circle.
@@ -42,6 +41,16 @@ pub struct State {
     pub tag: u32,
     /// Where the search for a free page starts.
     pub hint: u32,
+}
+
+/// The state of a store.
+///
+/// Any contents are safe: a call on a state that holds no store is refused.
+#[repr(C)]
+#[derive(Clone, Copy, Debug, PartialEq, Eq)]
+pub struct State {
+    /// The settings and the registers.
+    pub registers: Registers,
     /// The cache.
     pub cache: Cache,
 }
@@ -66,12 +75,20 @@ pub struct Need {
     pub history: usize,
 }
 
-/// The state after a call, and its refusal or 0.
+/// The state after RESET, and its refusal or 0.
 #[repr(C)]
-#[derive(Clone, Copy, Debug, PartialEq, Eq)]
 pub struct Outcome {
     /// The state after the call; refused, the very state given.
     pub state: State,
+    /// The refusal, or 0.
+    pub refusal: u32,
+}
+
+/// The registers after a call, and its refusal or 0.
+#[repr(C)]
+pub struct Step {
+    /// The registers after the call; refused, the very ones given.
+    pub registers: Registers,
     /// The refusal, or 0.
     pub refusal: u32,
 }
@@ -80,8 +97,6 @@ pub struct Outcome {
 #[repr(C)]
 #[derive(Clone, Copy, Debug, PartialEq, Eq)]
 pub struct Reading {
-    /// The state after the call; refused, the very state given.
-    pub state: State,
     /// The refusal, or 0.
     pub refusal: u32,
     /// The value; refused, 0.
@@ -123,14 +138,16 @@ const _: () = {
     assert!(offset_of!(Cache, valid) == 192);
     assert!(offset_of!(Cache, bytes) == 224);
     assert!(offset_of!(Cache, last) == 736);
+    assert!(size_of::<Registers>() == 28 && align_of::<Registers>() == 4);
+    assert!(offset_of!(Registers, lines) == 0);
+    assert!(offset_of!(Registers, frames) == 4);
+    assert!(offset_of!(Registers, pages) == 8);
+    assert!(offset_of!(Registers, cmf) == 12);
+    assert!(offset_of!(Registers, omf) == 16);
+    assert!(offset_of!(Registers, tag) == 20);
+    assert!(offset_of!(Registers, hint) == 24);
     assert!(size_of::<State>() == 780 && align_of::<State>() == 4);
-    assert!(offset_of!(State, lines) == 0);
-    assert!(offset_of!(State, frames) == 4);
-    assert!(offset_of!(State, pages) == 8);
-    assert!(offset_of!(State, cmf) == 12);
-    assert!(offset_of!(State, omf) == 16);
-    assert!(offset_of!(State, tag) == 20);
-    assert!(offset_of!(State, hint) == 24);
+    assert!(offset_of!(State, registers) == 0);
     assert!(offset_of!(State, cache) == 28);
     assert!(size_of::<Need>() == 56 && align_of::<Need>() == 8);
     assert!(offset_of!(Need, refusal) == 0);
@@ -143,12 +160,14 @@ const _: () = {
     assert!(size_of::<Outcome>() == 784 && align_of::<Outcome>() == 4);
     assert!(offset_of!(Outcome, state) == 0);
     assert!(offset_of!(Outcome, refusal) == 780);
-    assert!(size_of::<Reading>() == 796 && align_of::<Reading>() == 4);
-    assert!(offset_of!(Reading, state) == 0);
-    assert!(offset_of!(Reading, refusal) == 780);
-    assert!(offset_of!(Reading, value) == 784);
-    assert!(offset_of!(Reading, origin) == 788);
-    assert!(offset_of!(Reading, marks_back) == 792);
+    assert!(size_of::<Step>() == 32 && align_of::<Step>() == 4);
+    assert!(offset_of!(Step, registers) == 0);
+    assert!(offset_of!(Step, refusal) == 28);
+    assert!(size_of::<Reading>() == 16 && align_of::<Reading>() == 4);
+    assert!(offset_of!(Reading, refusal) == 0);
+    assert!(offset_of!(Reading, value) == 4);
+    assert!(offset_of!(Reading, origin) == 8);
+    assert!(offset_of!(Reading, marks_back) == 12);
     assert!(size_of::<Counted>() == 12 && align_of::<Counted>() == 4);
     assert!(offset_of!(Counted, refusal) == 0);
     assert!(offset_of!(Counted, live) == 4);
@@ -163,7 +182,7 @@ extern "C" {
 
     pub fn vcm_blank() -> State;
 
-    pub fn vcm_reset(
+    pub fn vcm_raw_reset(
         state: State,
         archive: *mut u8,
         archive_len: usize,
@@ -182,8 +201,13 @@ extern "C" {
         pages: u32,
     ) -> Outcome;
 
-    pub fn vcm_write(
-        state: State,
+    pub fn vcm_raw_write(
+        registers: Registers,
+        held: *mut [u32; 32],
+        origins: *mut [u16; 32],
+        valid: *mut [u8; 32],
+        bytes: *mut [u8; 512],
+        last: *mut [u8; 16],
         archive: *const u8,
         archive_len: usize,
         pool: *mut u8,
@@ -199,10 +223,15 @@ extern "C" {
         width: u32,
         address: u32,
         value: u32,
-    ) -> Outcome;
+    ) -> Step;
 
-    pub fn vcm_read(
-        state: State,
+    pub fn vcm_raw_read(
+        registers: Registers,
+        held: *mut [u32; 32],
+        origins: *mut [u16; 32],
+        valid: *mut [u8; 32],
+        bytes: *mut [u8; 512],
+        last: *mut [u8; 16],
         archive: *const u8,
         archive_len: usize,
         pool: *const u8,
@@ -219,8 +248,8 @@ extern "C" {
         address: u32,
     ) -> Reading;
 
-    pub fn vcm_line(
-        state: State,
+    pub fn vcm_raw_line(
+        registers: Registers,
         archive: *const u8,
         archive_len: usize,
         pool: *const u8,
@@ -237,8 +266,8 @@ extern "C" {
         bytes: *mut [u8; 16],
     ) -> u32;
 
-    pub fn vcm_line_refusal(
-        state: State,
+    pub fn vcm_raw_line_refusal(
+        registers: Registers,
         archive: *const u8,
         archive_len: usize,
         pool: *const u8,
@@ -254,8 +283,8 @@ extern "C" {
         line: u32,
     ) -> u32;
 
-    pub fn vcm_mark(
-        state: State,
+    pub fn vcm_raw_mark(
+        registers: Registers,
         archive: *const u8,
         archive_len: usize,
         pool: *const u8,
@@ -268,10 +297,12 @@ extern "C" {
         owners_len: usize,
         history: *const u16,
         history_len: usize,
-    ) -> Outcome;
+    ) -> Step;
 
-    pub fn vcm_rollback(
-        state: State,
+    pub fn vcm_raw_rollback(
+        registers: Registers,
+        origins: *const [u16; 32],
+        valid: *mut [u8; 32],
         archive: *const u8,
         archive_len: usize,
         pool: *const u8,
@@ -285,10 +316,11 @@ extern "C" {
         history: *mut u16,
         history_len: usize,
         k: u32,
-    ) -> Outcome;
+    ) -> Step;
 
-    pub fn vcm_advance(
-        state: State,
+    pub fn vcm_raw_advance(
+        registers: Registers,
+        origins: *mut [u16; 32],
         archive: *mut u8,
         archive_len: usize,
         pool: *const u8,
@@ -302,10 +334,10 @@ extern "C" {
         history: *mut u16,
         history_len: usize,
         k: u32,
-    ) -> Outcome;
+    ) -> Step;
 
-    pub fn vcm_counts(
-        state: State,
+    pub fn vcm_raw_counts(
+        registers: Registers,
         archive: *const u8,
         archive_len: usize,
         pool: *const u8,
@@ -320,7 +352,7 @@ extern "C" {
         history_len: usize,
     ) -> Counted;
 
-    pub fn vcm_check(
+    pub fn vcm_raw_check(
         state: State,
         archive: *const u8,
         archive_len: usize,

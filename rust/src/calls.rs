@@ -1,9 +1,9 @@
 //! The library's calls over a [`State`] and lent memory, for a caller who keeps the memory himself.
 //!
 //! Every call is safe on any state and on memory of any contents and any length: the library has no precondition. A call whose
-//! answer is not fixed, because the storage is not well-formed, still stays inside the memory lent. Answers are the library's own
-//! numbers; [`crate::Store`] has them as Rust types.
-use crate::border::{self, Counted, Need, Outcome, Reading, State, Verdict};
+//! answer is not fixed, because the storage is not well-formed, still stays inside the memory lent. A refused call leaves state and
+//! memory untouched. Answers are the library's own numbers; [`crate::Store`] has them as Rust types.
+use crate::border::{self, Counted, Need, Reading, State, Step, Verdict};
 
 /// The memory lent to a call that may write it. A piece may be longer than the need; what lies past the need is not touched.
 #[derive(Debug)]
@@ -54,9 +54,32 @@ impl Lent<'_> {
     }
 }
 
-// In every call below a slice is passed as its pointer and its length. A slice's pointer is aligned and not null also where it is
-// empty, a shared slice is only passed as `*const`, which the library does not write through, and the slices of `Lent`, being
-// exclusive, do not overlap. The library keeps no pointer after the call.
+/// Calls the library with a lent memory's six slices, each as its pointer and its length, between the first and the last arguments.
+///
+/// A slice's pointer is aligned and not null also where it is empty. `as_ptr` is for calls that write none of them; `as_mut_ptr` needs a
+/// [`Lent`], whose slices are exclusive and do not overlap. The library keeps no pointer after the call.
+macro_rules! call {
+    ($function:ident($($first:expr),*), $memory:expr, $pointer:ident $(, $last:expr)*) => {
+        border::$function(
+            $($first,)*
+            $memory.archive.$pointer(),
+            $memory.archive.len(),
+            $memory.pool.$pointer(),
+            $memory.pool.len(),
+            $memory.groups.$pointer(),
+            $memory.groups.len(),
+            $memory.table.$pointer(),
+            $memory.table.len(),
+            $memory.owners.$pointer(),
+            $memory.owners.len(),
+            $memory.history.$pointer(),
+            $memory.history.len(),
+            $($last,)*
+        )
+    };
+}
+
+// The cache's arrays are parts of a state that is borrowed for the call, exclusively where they are passed as `*mut`.
 
 /// The sizing call: the need of each piece in bytes, or refusal 4.
 #[must_use]
@@ -72,79 +95,79 @@ pub fn blank() -> State {
     unsafe { border::vcm_blank() }
 }
 
-/// RESET: an empty store with these settings, whatever the state and the memory held. It writes archive, groups and history.
+/// Takes over the registers that a call gives back, and hands on its refusal or 0.
+#[inline]
+fn step(state: &mut State, step: Step) -> u32 {
+    state.registers = step.registers;
+    step.refusal
+}
+
+/// RESET: an empty store with these settings, whatever the state and the memory held. It writes archive, groups and history, and gives
+/// the refusal or 0.
 #[must_use]
-pub fn reset(state: &State, lent: &mut Lent, lines: u32, frames: u32, pages: u32) -> Outcome {
+pub fn reset(state: &mut State, lent: &mut Lent, lines: u32, frames: u32, pages: u32) -> u32 {
     // SAFETY: any state and any memory is allowed; only exclusive slices are passed as `*mut`.
-    unsafe {
-        border::vcm_reset(
-            *state,
-            lent.archive.as_mut_ptr(),
-            lent.archive.len(),
-            lent.pool.as_ptr(),
-            lent.pool.len(),
-            lent.groups.as_mut_ptr(),
-            lent.groups.len(),
-            lent.table.as_ptr(),
-            lent.table.len(),
-            lent.owners.as_ptr(),
-            lent.owners.len(),
-            lent.history.as_mut_ptr(),
-            lent.history.len(),
+    let outcome = unsafe {
+        call!(
+            vcm_raw_reset(*state),
+            lent,
+            as_mut_ptr,
             lines,
             frames,
-            pages,
+            pages
         )
-    }
+    };
+    *state = outcome.state;
+    outcome.refusal
 }
 
-/// WRITE: a value of 1, 2 or 4 bytes, most significant byte first. It writes pool, groups, table and owners.
+/// WRITE: a value of 1, 2 or 4 bytes, most significant byte first. It writes the cache, pool, groups, table and owners, and gives the
+/// refusal or 0.
+#[inline]
 #[must_use]
-pub fn write(state: &State, lent: &mut Lent, width: u32, address: u32, value: u32) -> Outcome {
+pub fn write(state: &mut State, lent: &mut Lent, width: u32, address: u32, value: u32) -> u32 {
+    let c = &mut state.cache;
     // SAFETY: any state and any memory is allowed; only exclusive slices are passed as `*mut`.
-    unsafe {
-        border::vcm_write(
-            *state,
-            lent.archive.as_ptr(),
-            lent.archive.len(),
-            lent.pool.as_mut_ptr(),
-            lent.pool.len(),
-            lent.groups.as_mut_ptr(),
-            lent.groups.len(),
-            lent.table.as_mut_ptr(),
-            lent.table.len(),
-            lent.owners.as_mut_ptr(),
-            lent.owners.len(),
-            lent.history.as_ptr(),
-            lent.history.len(),
+    let after = unsafe {
+        call!(
+            vcm_raw_write(
+                state.registers,
+                &mut c.lines,
+                &mut c.frames,
+                &mut c.valid,
+                &mut c.bytes,
+                &mut c.last
+            ),
+            lent,
+            as_mut_ptr,
             width,
             address,
-            value,
+            value
         )
-    }
+    };
+    step(state, after)
 }
 
-/// READ: the value and its origin. It writes none of the lent memory; the state that it gives back has the line in its cache.
+/// READ: the value and its origin. It writes the cache.
+#[inline]
 #[must_use]
-pub fn read(state: &State, lent: Shown, width: u32, address: u32) -> Reading {
-    // SAFETY: any state and any memory is allowed; nothing is passed as `*mut`.
+pub fn read(state: &mut State, lent: Shown, width: u32, address: u32) -> Reading {
+    let c = &mut state.cache;
+    // SAFETY: any state and any memory is allowed; no slice is passed as `*mut`.
     unsafe {
-        border::vcm_read(
-            *state,
-            lent.archive.as_ptr(),
-            lent.archive.len(),
-            lent.pool.as_ptr(),
-            lent.pool.len(),
-            lent.groups.as_ptr(),
-            lent.groups.len(),
-            lent.table.as_ptr(),
-            lent.table.len(),
-            lent.owners.as_ptr(),
-            lent.owners.len(),
-            lent.history.as_ptr(),
-            lent.history.len(),
+        call!(
+            vcm_raw_read(
+                state.registers,
+                &mut c.lines,
+                &mut c.frames,
+                &mut c.valid,
+                &mut c.bytes,
+                &mut c.last
+            ),
+            lent,
+            as_ptr,
             width,
-            address,
+            address
         )
     }
 }
@@ -153,164 +176,68 @@ pub fn read(state: &State, lent: Shown, width: u32, address: u32) -> Reading {
 #[must_use]
 pub fn line(state: &State, lent: Shown, line: u32, bytes: &mut [u8; 16]) -> u32 {
     // SAFETY: any state and any memory is allowed; `bytes` is exclusive and has room for the 16 bytes.
-    unsafe {
-        border::vcm_line(
-            *state,
-            lent.archive.as_ptr(),
-            lent.archive.len(),
-            lent.pool.as_ptr(),
-            lent.pool.len(),
-            lent.groups.as_ptr(),
-            lent.groups.len(),
-            lent.table.as_ptr(),
-            lent.table.len(),
-            lent.owners.as_ptr(),
-            lent.owners.len(),
-            lent.history.as_ptr(),
-            lent.history.len(),
-            line,
-            bytes,
-        )
-    }
+    unsafe { call!(vcm_raw_line(state.registers), lent, as_ptr, line, bytes) }
 }
 
 /// LINE's companion: the refusal of [`line()`] on the same arguments, or 0.
 #[must_use]
 pub fn line_refusal(state: &State, lent: Shown, line: u32) -> u32 {
     // SAFETY: any state and any memory is allowed; nothing is passed as `*mut`.
-    unsafe {
-        border::vcm_line_refusal(
-            *state,
-            lent.archive.as_ptr(),
-            lent.archive.len(),
-            lent.pool.as_ptr(),
-            lent.pool.len(),
-            lent.groups.as_ptr(),
-            lent.groups.len(),
-            lent.table.as_ptr(),
-            lent.table.len(),
-            lent.owners.as_ptr(),
-            lent.owners.len(),
-            lent.history.as_ptr(),
-            lent.history.len(),
-            line,
-        )
-    }
+    unsafe { call!(vcm_raw_line_refusal(state.registers), lent, as_ptr, line) }
 }
 
-/// MARK: opens the next frame. It writes none of the lent memory.
+/// MARK: opens the next frame, and gives the refusal or 0.
+#[inline]
 #[must_use]
-pub fn mark(state: &State, lent: Shown) -> Outcome {
+pub fn mark(state: &mut State, lent: Shown) -> u32 {
     // SAFETY: any state and any memory is allowed; nothing is passed as `*mut`.
-    unsafe {
-        border::vcm_mark(
-            *state,
-            lent.archive.as_ptr(),
-            lent.archive.len(),
-            lent.pool.as_ptr(),
-            lent.pool.len(),
-            lent.groups.as_ptr(),
-            lent.groups.len(),
-            lent.table.as_ptr(),
-            lent.table.len(),
-            lent.owners.as_ptr(),
-            lent.owners.len(),
-            lent.history.as_ptr(),
-            lent.history.len(),
-        )
-    }
+    let after = unsafe { call!(vcm_raw_mark(state.registers), lent, as_ptr) };
+    step(state, after)
 }
 
-/// ROLLBACK: drops the `k` newest frames. It writes groups and history.
+/// ROLLBACK: drops the `k` newest frames. It writes the cache's valid flags, groups and history, and gives the refusal or 0.
 #[must_use]
-pub fn rollback(state: &State, lent: &mut Lent, k: u32) -> Outcome {
+pub fn rollback(state: &mut State, lent: &mut Lent, k: u32) -> u32 {
+    let c = &mut state.cache;
     // SAFETY: any state and any memory is allowed; only exclusive slices are passed as `*mut`.
-    unsafe {
-        border::vcm_rollback(
-            *state,
-            lent.archive.as_ptr(),
-            lent.archive.len(),
-            lent.pool.as_ptr(),
-            lent.pool.len(),
-            lent.groups.as_mut_ptr(),
-            lent.groups.len(),
-            lent.table.as_ptr(),
-            lent.table.len(),
-            lent.owners.as_ptr(),
-            lent.owners.len(),
-            lent.history.as_mut_ptr(),
-            lent.history.len(),
-            k,
+    let after = unsafe {
+        call!(
+            vcm_raw_rollback(state.registers, &c.frames, &mut c.valid),
+            lent,
+            as_mut_ptr,
+            k
         )
-    }
+    };
+    step(state, after)
 }
 
-/// ADVANCE: folds the `k` oldest frames into the archive. It writes archive, groups and history.
+/// ADVANCE: folds the `k` oldest frames into the archive. It writes the frames of the cache's entries, archive, groups and history, and
+/// gives the refusal or 0.
 #[must_use]
-pub fn advance(state: &State, lent: &mut Lent, k: u32) -> Outcome {
+pub fn advance(state: &mut State, lent: &mut Lent, k: u32) -> u32 {
+    let c = &mut state.cache;
     // SAFETY: any state and any memory is allowed; only exclusive slices are passed as `*mut`.
-    unsafe {
-        border::vcm_advance(
-            *state,
-            lent.archive.as_mut_ptr(),
-            lent.archive.len(),
-            lent.pool.as_ptr(),
-            lent.pool.len(),
-            lent.groups.as_mut_ptr(),
-            lent.groups.len(),
-            lent.table.as_ptr(),
-            lent.table.len(),
-            lent.owners.as_ptr(),
-            lent.owners.len(),
-            lent.history.as_mut_ptr(),
-            lent.history.len(),
-            k,
+    let after = unsafe {
+        call!(
+            vcm_raw_advance(state.registers, &mut c.frames),
+            lent,
+            as_mut_ptr,
+            k
         )
-    }
+    };
+    step(state, after)
 }
 
 /// COUNTS: the live frames and the pages needed.
 #[must_use]
 pub fn counts(state: &State, lent: Shown) -> Counted {
     // SAFETY: any state and any memory is allowed; nothing is passed as `*mut`.
-    unsafe {
-        border::vcm_counts(
-            *state,
-            lent.archive.as_ptr(),
-            lent.archive.len(),
-            lent.pool.as_ptr(),
-            lent.pool.len(),
-            lent.groups.as_ptr(),
-            lent.groups.len(),
-            lent.table.as_ptr(),
-            lent.table.len(),
-            lent.owners.as_ptr(),
-            lent.owners.len(),
-            lent.history.as_ptr(),
-            lent.history.len(),
-        )
-    }
+    unsafe { call!(vcm_raw_counts(state.registers), lent, as_ptr) }
 }
 
 /// CHECK: yes exactly if the storage is well-formed.
 #[must_use]
 pub fn check(state: &State, lent: Shown) -> Verdict {
     // SAFETY: any state and any memory is allowed; nothing is passed as `*mut`.
-    unsafe {
-        border::vcm_check(
-            *state,
-            lent.archive.as_ptr(),
-            lent.archive.len(),
-            lent.pool.as_ptr(),
-            lent.pool.len(),
-            lent.groups.as_ptr(),
-            lent.groups.len(),
-            lent.table.as_ptr(),
-            lent.table.len(),
-            lent.owners.as_ptr(),
-            lent.owners.len(),
-            lent.history.as_ptr(),
-            lent.history.len(),
-        )
-    }
+    unsafe { call!(vcm_raw_check(*state), lent, as_ptr) }
 }

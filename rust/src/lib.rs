@@ -12,13 +12,13 @@ mod refusal;
 
 use std::fmt;
 
-pub use border::{Cache, State};
+pub use border::{Cache, Registers, State};
 use calls::{Lent, Shown};
 pub use refusal::Refusal;
 
 /// The library's answers in its own numbers, as [`calls`] gives them.
 pub mod numbers {
-    pub use crate::border::{Counted, Need, Outcome, Reading, Verdict};
+    pub use crate::border::{Counted, Need, Reading, Verdict};
 }
 
 /// Where a read found its value.
@@ -93,6 +93,7 @@ impl Memory {
         }
     }
 
+    #[inline]
     fn lent(&mut self) -> Lent<'_> {
         Lent {
             archive: &mut self.archive,
@@ -104,6 +105,7 @@ impl Memory {
         }
     }
 
+    #[inline]
     fn shown(&self) -> Shown<'_> {
         Shown {
             archive: &self.archive,
@@ -117,6 +119,7 @@ impl Memory {
 }
 
 /// The refusal of a number as an error, unless it is 0.
+#[inline]
 fn accepted(number: u32) -> Result<(), Refusal> {
     match number {
         0 => Ok(()),
@@ -133,12 +136,15 @@ impl Store {
         let need = calls::sizes(lines, frames, pages);
         accepted(need.refusal)?;
         let mut memory = Memory::new(&need);
-        let outcome = calls::reset(&calls::blank(), &mut memory.lent(), lines, frames, pages);
-        accepted(outcome.refusal)?;
-        Ok(Store {
-            state: outcome.state,
-            memory,
-        })
+        let mut state = calls::blank();
+        accepted(calls::reset(
+            &mut state,
+            &mut memory.lent(),
+            lines,
+            frames,
+            pages,
+        ))?;
+        Ok(Store { state, memory })
     }
 
     /// RESET: an empty store with these settings, in new memory of the right size where they differ.
@@ -150,31 +156,44 @@ impl Store {
             *self = Store::new(lines, frames, pages)?;
             return Ok(());
         }
-        let outcome = calls::reset(&self.state, &mut self.memory.lent(), lines, frames, pages);
-        self.take(outcome)
+        accepted(calls::reset(
+            &mut self.state,
+            &mut self.memory.lent(),
+            lines,
+            frames,
+            pages,
+        ))
     }
 
     /// The settings: lines, frames and pages.
     #[must_use]
     pub fn settings(&self) -> (u32, u32, u32) {
-        (self.state.lines, self.state.frames, self.state.pages)
+        let registers = &self.state.registers;
+        (registers.lines, registers.frames, registers.pages)
     }
 
     /// WRITE: a value of `width` bytes, most significant byte first, to the current frame.
     ///
     /// # Errors
     /// [`Refusal::Width`], [`Refusal::Alignment`], [`Refusal::Range`], [`Refusal::Value`] or [`Refusal::Pages`].
+    #[inline]
     pub fn write(&mut self, width: u32, address: u32, value: u32) -> Result<(), Refusal> {
-        let outcome = calls::write(&self.state, &mut self.memory.lent(), width, address, value);
-        self.take(outcome)
+        accepted(calls::write(
+            &mut self.state,
+            &mut self.memory.lent(),
+            width,
+            address,
+            value,
+        ))
     }
 
     /// READ: the value of `width` bytes at an address and where it was found. The cache has the line afterwards.
     ///
     /// # Errors
     /// [`Refusal::Width`], [`Refusal::Alignment`] or [`Refusal::Range`].
+    #[inline]
     pub fn read(&mut self, width: u32, address: u32) -> Result<Reading, Refusal> {
-        let reading = calls::read(&self.state, self.memory.shown(), width, address);
+        let reading = calls::read(&mut self.state, self.memory.shown(), width, address);
         accepted(reading.refusal)?;
         let origin = match reading.origin {
             0 => Origin::Archive,
@@ -182,7 +201,6 @@ impl Store {
             2 => Origin::Cache,
             other => return Err(Refusal::Unknown(other)),
         };
-        self.state = reading.state;
         Ok(Reading {
             value: reading.value,
             origin,
@@ -208,9 +226,9 @@ impl Store {
     ///
     /// # Errors
     /// [`Refusal::Frames`] where all frames are live.
+    #[inline]
     pub fn mark(&mut self) -> Result<(), Refusal> {
-        let outcome = calls::mark(&self.state, self.memory.shown());
-        self.take(outcome)
+        accepted(calls::mark(&mut self.state, self.memory.shown()))
     }
 
     /// ROLLBACK: drops the `k` newest frames with all that was written in them. The marks gone back over are used up.
@@ -218,8 +236,7 @@ impl Store {
     /// # Errors
     /// [`Refusal::Marks`] where `k` is 0 or more than there are marks.
     pub fn rollback(&mut self, k: u32) -> Result<(), Refusal> {
-        let outcome = calls::rollback(&self.state, &mut self.memory.lent(), k);
-        self.take(outcome)
+        accepted(calls::rollback(&mut self.state, &mut self.memory.lent(), k))
     }
 
     /// ADVANCE: folds the `k` oldest frames into the archive and frees them. Their marks can no longer be gone back to.
@@ -227,8 +244,7 @@ impl Store {
     /// # Errors
     /// [`Refusal::Marks`] where `k` is 0 or more than there are marks.
     pub fn advance(&mut self, k: u32) -> Result<(), Refusal> {
-        let outcome = calls::advance(&self.state, &mut self.memory.lent(), k);
-        self.take(outcome)
+        accepted(calls::advance(&mut self.state, &mut self.memory.lent(), k))
     }
 
     /// COUNTS: the live frames and the pages needed.
@@ -253,22 +269,16 @@ impl Store {
         accepted(verdict.refusal)?;
         Ok(verdict.yes == 1)
     }
-
-    fn take(&mut self, outcome: border::Outcome) -> Result<(), Refusal> {
-        accepted(outcome.refusal)?;
-        self.state = outcome.state;
-        Ok(())
-    }
 }
 
 impl fmt::Debug for Store {
     fn fmt(&self, f: &mut fmt::Formatter<'_>) -> fmt::Result {
         f.debug_struct("Store")
-            .field("lines", &self.state.lines)
-            .field("frames", &self.state.frames)
-            .field("pages", &self.state.pages)
-            .field("cmf", &self.state.cmf)
-            .field("omf", &self.state.omf)
+            .field("lines", &self.state.registers.lines)
+            .field("frames", &self.state.registers.frames)
+            .field("pages", &self.state.registers.pages)
+            .field("cmf", &self.state.registers.cmf)
+            .field("omf", &self.state.registers.omf)
             .finish_non_exhaustive()
     }
 }

@@ -1,53 +1,39 @@
-// The calls on a line: WRITE, READ, LINE and its companion. `store` passes them on with the others.
+// The calls on a line: WRITE, READ, LINE and its companion. They take the registers by value and the cache's arrays where they lie, so
+// that nothing of the cache is copied. `store` has the same calls on a whole
+// state by value, `vcm` exports them.
+use cache::Entry;
 use frames::Found;
-use storage::Outcome;
-use storage::State;
+use storage::Registers;
+use storage::Step;
 use versions::Origin;
 use versions::Spot;
+use versions::Version;
 ghost use mathlib.Core.Path.{_≡_};
 ghost use Rattle.rules.specs.Call.Answer.{outcome, lending};
 ghost use Rattle.rules.specs.Call.Call.{LINE, LINE-REFUSAL};
-ghost use Rattle.rules.specs.Promise.{Promise};
-ghost use Rattle.versions.specs.Newest.{originOf};
+ghost use Rattle.written.specs.Bits.{writtenOf};
+ghost use Rattle.versions.specs.Newest.{originOf, newestOf, AsksNewest};
+ghost use Rattle.cache.specs.Entries.{cacheOf};
 ghost use Rattle.cache.specs.Steps.{placed};
-ghost use Rattle.storage.specs.Storage.{storageOf, store};
-ghost use Rattle.storage.specs.Steps.{usedState, Put, AsksWrite};
-ghost use Rattle.storage.specs.Contracts.{Writes, Reads};
+ghost use Rattle.storage.specs.Storage.{memoryOf, stateOf, storageOf};
+ghost use Rattle.storage.specs.Steps.{Put, AsksWrite};
+ghost use Rattle.storage.specs.Contracts.{Writes, Reads, Looks};
 
 // The value of a read and its origin, with the refusal or 0.
 pub struct Reading {
-    pub state: State,
     pub refusal: u32,
     pub value: u32,
     pub origin: Origin,
 }
 
-// The state after a use of a line, by a read or a write: the way taken has it with this frame and these bytes and was used last. The
-// cache's arrays are changed where they lie.
-fn used(mut state: State, hint: u32, line: u32, frame: u16, content: [u8; 16]) -> State
-    ensures { λ r. ⌜ r ≡ usedState state hint (placed (state .cache) line frame content) ⌝ }
-{
-    let way = cache::way_for(
-        &state.cache.lines,
-        &state.cache.valid,
-        &state.cache.last,
-        line,
-    );
-    let set = line % 16;
-    let entry = 2 * set + way;
-    cache::set_line(&mut state.cache.lines, entry, line);
-    cache::set_frame(&mut state.cache.frames, entry, frame);
-    cache::set_valid(&mut state.cache.valid, entry);
-    cache::set_bytes(&mut state.cache.bytes, entry, content);
-    cache::set_last(&mut state.cache.last, set, way);
-    state.hint = hint;
-    state
-}
-
-// Writes a value to the most recent version of its line and puts the line in a page of CMF and in the cache; the next search for a page
-// starts behind this one.
+// Writes a value to the most recent version of its line and puts the line in a page of CMF and in the cache.
 fn put_value(
-    state: State,
+    registers: Registers,
+    held: &mut [u32; 32],
+    origins: &mut [u16; 32],
+    valid: &mut [u8; 32],
+    bytes: &mut [u8; 512],
+    last: &mut [u8; 16],
     archive: &[u8],
     pool: &mut [u8],
     groups: &mut [u32],
@@ -59,26 +45,26 @@ fn put_value(
     value: u32,
     live: u32,
     page: u32,
-) -> State
-    requires { ⌜ AsksWrite (storageOf state (now archive) (now pool) (now groups) (now table) (now owners) (now history)) width address live page ⌝ }
-    ensures { λ r. ⌜ Put (storageOf state (now (archive .entry)) (now (pool .entry)) (now (groups .entry)) (now (table .entry)) (now (owners .entry)) (now (history .entry))) width address value live page
-        (storageOf r (now (archive .entry)) (now (pool .exit)) (now (groups .exit)) (now (table .exit)) (now (owners .exit)) (now (history .entry))) ⌝ }
+)
+    requires { ⌜ AsksWrite (storageOf (stateOf registers (cacheOf (now held) (now origins) (now valid) (now bytes) (now last))) (now archive) (now pool) (now groups) (now table) (now owners) (now history)) width address live page ⌝ }
+    ensures { λ _. ⌜ Put (storageOf (stateOf registers (cacheOf (now (held .entry)) (now (origins .entry)) (now (valid .entry)) (now (bytes .entry)) (now (last .entry)))) (now (archive .entry)) (now (pool .entry)) (now (groups .entry)) (now (table .entry)) (now (owners .entry)) (now (history .entry))) width address value live page
+        (cacheOf (now (held .exit)) (now (origins .exit)) (now (valid .exit)) (now (bytes .exit)) (now (last .exit))) (memoryOf (now (archive .entry)) (now (pool .exit)) (now (groups .exit)) (now (table .exit)) (now (owners .exit)) (now (history .entry))) ⌝ }
 {
     let line = address / 16;
     let latest = versions::latest(
-        &state.cache.lines,
-        &state.cache.frames,
-        &state.cache.valid,
-        &state.cache.bytes,
+        held,
+        origins,
+        valid,
+        bytes,
         archive,
         pool,
         groups,
         table,
         history,
-        state.lines,
-        state.frames,
-        state.omf,
-        state.pages,
+        registers.lines,
+        registers.frames,
+        registers.omf,
+        registers.pages,
         live,
         line,
     );
@@ -90,22 +76,28 @@ fn put_value(
         table,
         owners,
         history,
-        state.lines,
-        state.frames,
-        state.omf,
-        state.tag % 256,
-        state.pages,
+        registers.lines,
+        registers.frames,
+        registers.omf,
+        registers.tag % 256,
+        registers.pages,
         line,
         live - 1,
         page,
         content,
     );
-    used(state, page + 1, line, state.cmf as u16, content)
+    let frame = registers.cmf as u16;
+    cache::place(held, origins, valid, bytes, last, line, frame, content);
 }
 
 // WRITE: to the line's page in CMF, which is the one it has or, if none of its block is needed yet, one that is given out.
 pub fn write(
-    state: State,
+    mut registers: Registers,
+    held: &mut [u32; 32],
+    origins: &mut [u16; 32],
+    valid: &mut [u8; 32],
+    bytes: &mut [u8; 512],
+    last: &mut [u8; 16],
     archive: &[u8],
     pool: &mut [u8],
     groups: &mut [u32],
@@ -115,34 +107,41 @@ pub fn write(
     width: u32,
     address: u32,
     value: u32,
-) -> Outcome
+) -> Step
     ensures { λ r. ⌜ Writes
-        (storageOf state (now (archive .entry)) (now (pool .entry)) (now (groups .entry)) (now (table .entry)) (now (owners .entry)) (now (history .entry)))
+        (storageOf (stateOf registers (cacheOf (now (held .entry)) (now (origins .entry)) (now (valid .entry)) (now (bytes .entry)) (now (last .entry)))) (now (archive .entry)) (now (pool .entry)) (now (groups .entry)) (now (table .entry)) (now (owners .entry)) (now (history .entry)))
         width address value (r .refusal)
-        (storageOf (r .state) (now (archive .entry)) (now (pool .exit)) (now (groups .exit)) (now (table .exit)) (now (owners .exit)) (now (history .entry))) ⌝ }
+        (storageOf (stateOf (r .registers) (cacheOf (now (held .exit)) (now (origins .exit)) (now (valid .exit)) (now (bytes .exit)) (now (last .exit)))) (now (archive .entry)) (now (pool .exit)) (now (groups .exit)) (now (table .exit)) (now (owners .exit)) (now (history .entry))) ⌝ }
 {
     let lengths = storage::measure(archive, pool, groups, table, owners, history);
-    let refusal = storage::admit_write(state, lengths, width, address, value);
+    let refusal = storage::admit_write(registers, lengths, width, address, value);
     if refusal != 0 {
-        return Outcome { state, refusal };
+        return Step { registers, refusal };
     }
-    let live = frames::live(state.cmf, state.omf, state.frames);
-    match versions::page_for(
+    let live = frames::live(registers.cmf, registers.omf, registers.frames);
+    let choice = versions::page_for(
         groups,
         history,
         table,
         owners,
-        state.lines,
-        state.frames,
-        state.omf,
-        state.pages,
-        state.hint,
-        state.cmf,
+        registers.lines,
+        registers.frames,
+        registers.omf,
+        registers.pages,
+        registers.hint,
+        registers.cmf,
         address / 16,
-    ) {
-        Found::At(page) => Outcome {
-            state: put_value(
-                state,
+    );
+    let found = choice.page;
+    match found {
+        Found::At(page) => {
+            put_value(
+                registers,
+                held,
+                origins,
+                valid,
+                bytes,
+                last,
                 archive,
                 pool,
                 groups,
@@ -154,16 +153,75 @@ pub fn write(
                 value,
                 live,
                 page,
-            ),
-            refusal: 0,
+            );
+            registers.hint = choice.hint;
+            Step {
+                registers,
+                refusal: 0,
+            }
+        }
+        Found::Nothing => Step {
+            registers,
+            refusal: 13,
         },
-        Found::Nothing => Outcome { state, refusal: 13 },
     }
+}
+
+// Finds the newest version of a line that the cache does not hold, and puts it there.
+fn load(
+    registers: Registers,
+    held: &mut [u32; 32],
+    origins: &mut [u16; 32],
+    valid: &mut [u8; 32],
+    bytes: &mut [u8; 512],
+    last: &mut [u8; 16],
+    archive: &[u8],
+    pool: &[u8],
+    groups: &[u32],
+    table: &[u16],
+    history: &[u16],
+    live: u32,
+    line: u32,
+) -> Version
+    requires { ⌜ AsksNewest (writtenOf (registers .lines) (registers .frames) (registers .omf) (now groups) (now history)) (registers .pages) live line (now archive) (now pool) (now table) ⌝ }
+    ensures found { λ r. ⌜ r ≡ newestOf (writtenOf (registers .lines) (registers .frames) (registers .omf) (now (groups .entry)) (now (history .entry))) (registers .pages) live (now (archive .entry)) (now (pool .entry)) (now (table .entry)) line ⌝ }
+    ensures held { λ r. ⌜ (cacheOf (now (held .exit)) (now (origins .exit)) (now (valid .exit)) (now (bytes .exit)) (now (last .exit))) ≡ placed (cacheOf (now (held .entry)) (now (origins .entry)) (now (valid .entry)) (now (bytes .entry)) (now (last .entry))) line (r .frame) (r .content) ⌝ }
+{
+    let version = versions::newest(
+        archive,
+        pool,
+        groups,
+        table,
+        history,
+        registers.lines,
+        registers.frames,
+        registers.omf,
+        registers.pages,
+        live,
+        line,
+    );
+    let content = version.content;
+    cache::place(
+        held,
+        origins,
+        valid,
+        bytes,
+        last,
+        line,
+        version.frame,
+        content,
+    );
+    version
 }
 
 // READ: from the cache where it holds the line, else from where the newest version stands; the cache has the line afterwards.
 pub fn read(
-    state: State,
+    registers: Registers,
+    held: &mut [u32; 32],
+    origins: &mut [u16; 32],
+    valid: &mut [u8; 32],
+    bytes: &mut [u8; 512],
+    last: &mut [u8; 16],
     archive: &[u8],
     pool: &[u8],
     groups: &[u32],
@@ -174,51 +232,62 @@ pub fn read(
     address: u32,
 ) -> Reading
     ensures { λ r. ⌜ Reads
-        (storageOf state (now (archive .entry)) (now (pool .entry)) (now (groups .entry)) (now (table .entry)) (now (owners .entry)) (now (history .entry)))
+        (storageOf (stateOf registers (cacheOf (now (held .entry)) (now (origins .entry)) (now (valid .entry)) (now (bytes .entry)) (now (last .entry)))) (now (archive .entry)) (now (pool .entry)) (now (groups .entry)) (now (table .entry)) (now (owners .entry)) (now (history .entry)))
         width address (r .refusal) (r .value) (originOf (r .origin))
-        (storageOf (r .state) (now (archive .entry)) (now (pool .entry)) (now (groups .entry)) (now (table .entry)) (now (owners .entry)) (now (history .entry))) ⌝ }
+        (storageOf (stateOf registers (cacheOf (now (held .exit)) (now (origins .exit)) (now (valid .exit)) (now (bytes .exit)) (now (last .exit)))) (now (archive .entry)) (now (pool .entry)) (now (groups .entry)) (now (table .entry)) (now (owners .entry)) (now (history .entry))) ⌝ }
 {
     let lengths = storage::measure(archive, pool, groups, table, owners, history);
-    let refusal = storage::admit_place(state, lengths, width, address);
+    let refusal = storage::admit_place(registers, lengths, width, address);
     if refusal != 0 {
         return Reading {
-            state,
             refusal,
             value: 0,
             origin: Origin::Archive,
         };
     }
     let line = address / 16;
-    let latest = versions::latest(
-        &state.cache.lines,
-        &state.cache.frames,
-        &state.cache.valid,
-        &state.cache.bytes,
-        archive,
-        pool,
-        groups,
-        table,
-        history,
-        state.lines,
-        state.frames,
-        state.omf,
-        state.pages,
-        frames::live(state.cmf, state.omf, state.frames),
-        line,
-    );
-    let content = latest.content;
-    let origin = latest.origin;
-    Reading {
-        state: used(state, state.hint, line, latest.frame, content),
-        refusal: 0,
-        value: pages::lines::value_of(content, width, address % 16),
-        origin,
+    match cache::find(held, valid, line) {
+        Entry::Hit(entry) => {
+            let content = cache::line_at(bytes, entry);
+            cache::recall(last, entry);
+            Reading {
+                refusal: 0,
+                value: pages::lines::value_of(content, width, address % 16),
+                origin: Origin::Cache,
+            }
+        }
+        Entry::Miss => {
+            let live = frames::live(registers.cmf, registers.omf, registers.frames);
+            let version = load(
+                registers,
+                held,
+                origins,
+                valid,
+                bytes,
+                last,
+                archive,
+                pool,
+                groups,
+                table,
+                history,
+                live,
+                line,
+            );
+            let content = version.content;
+            let origin = version.origin;
+            Reading {
+                refusal: 0,
+                value: pages::lines::value_of(content, width, address % 16),
+                origin,
+            }
+        }
     }
 }
 
-// LINE: lends the part of the pool or of the archive that holds the line's most recent version; refused, an empty part of the archive.
+// LINE: lends the part of the pool or of the archive that holds the line's most recent version; refused, an empty part of the archive. It
+// does not look at the cache, whatever that holds.
 pub fn line<'a>(
-    state: State,
+    registers: Registers,
     archive: &'a [u8],
     pool: &'a [u8],
     groups: &[u32],
@@ -227,31 +296,28 @@ pub fn line<'a>(
     history: &[u16],
     line: u32,
 ) -> &'a [u8]
-    ensures { λ r. ⌜ Promise store (LINE line)
-        (storageOf state (now (archive .entry)) (now (pool .entry)) (now (groups .entry)) (now (table .entry)) (now (owners .entry)) (now (history .entry)))
-        (lending (now r))
-        (storageOf state (now (archive .entry)) (now (pool .entry)) (now (groups .entry)) (now (table .entry)) (now (owners .entry)) (now (history .entry))) ⌝ }
+    ensures { λ r. ⌜ Looks (LINE line) registers (memoryOf (now (archive .entry)) (now (pool .entry)) (now (groups .entry)) (now (table .entry)) (now (owners .entry)) (now (history .entry))) (lending (now r)) ⌝ }
 {
     let lengths = storage::measure(archive, pool, groups, table, owners, history);
-    if storage::admit_line(state, lengths, line) != 0 {
+    if storage::admit_line(registers, lengths, line) != 0 {
         return &archive[0..0];
     }
-    let live = frames::live(state.cmf, state.omf, state.frames);
+    let live = frames::live(registers.cmf, registers.omf, registers.frames);
     let found = written::search(
         groups,
         history,
-        state.lines,
-        state.frames,
-        state.omf,
+        registers.lines,
+        registers.frames,
+        registers.omf,
         line,
         live - 1,
     );
     match versions::locate(
         table,
-        state.lines,
-        state.frames,
-        state.omf,
-        state.pages,
+        registers.lines,
+        registers.frames,
+        registers.omf,
+        registers.pages,
         line,
         found,
     ) {
@@ -270,7 +336,7 @@ pub fn line<'a>(
 
 // LINE's companion: the refusal of `line` on the same arguments, or 0.
 pub fn line_refusal(
-    state: State,
+    registers: Registers,
     archive: &[u8],
     pool: &[u8],
     groups: &[u32],
@@ -279,11 +345,8 @@ pub fn line_refusal(
     history: &[u16],
     line: u32,
 ) -> u32
-    ensures { λ r. ⌜ Promise store (LINE-REFUSAL line)
-        (storageOf state (now (archive .entry)) (now (pool .entry)) (now (groups .entry)) (now (table .entry)) (now (owners .entry)) (now (history .entry)))
-        (outcome r)
-        (storageOf state (now (archive .entry)) (now (pool .entry)) (now (groups .entry)) (now (table .entry)) (now (owners .entry)) (now (history .entry))) ⌝ }
+    ensures { λ r. ⌜ Looks (LINE-REFUSAL line) registers (memoryOf (now (archive .entry)) (now (pool .entry)) (now (groups .entry)) (now (table .entry)) (now (owners .entry)) (now (history .entry))) (outcome r) ⌝ }
 {
     let lengths = storage::measure(archive, pool, groups, table, owners, history);
-    storage::admit_line(state, lengths, line)
+    storage::admit_line(registers, lengths, line)
 }

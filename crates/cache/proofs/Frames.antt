@@ -13,7 +13,7 @@ use Rattle.rules.specs.Figure3.{unlessGone, forget}
 use Rattle.rules.proofs.Tests.{both-true}
 use Rattle.cache.specs.declared.Cache.{Cache}
 use Rattle.cache.specs.Entries.{Sized, lineOf, frameOf, isValid, bytesOf, All, bytesIn, isValidIn}
-use Rattle.cache.specs.Steps.{isDropped, flagAfter, forgotten, frameAfter, collected}
+use Rattle.cache.specs.Steps.{isDropped, flagAfter, flagsAfter, forgotten, frameAfter, framesAfter, collected}
 use Rattle.cache.specs.Shown.{lineIn, shown}
 use Rattle.frames.proofs.Lists.{rewrite-length, rewrite-past, rewrite-at}
 use Rattle.cache.proofs.Hits.{valid-below}
@@ -21,7 +21,7 @@ use Rattle.cache.proofs.Uses.{same-ways, carried}
 
 module _ (c : Cache) (s : Sized c) (omf frames n : ℕ) where
   pub forgotten-sized : Sized (forgotten c omf frames n)
-  unfolding forgotten
+  unfolding forgotten flagsAfter
   forgotten-sized =
       record {
         lines = s .lines;
@@ -33,7 +33,7 @@ module _ (c : Cache) (s : Sized c) (omf frames n : ℕ) where
 
   -- exactly the entries with a dropped frame become invalid
   pub forgotten-valid : (e : ℕ) → isValid (forgotten c omf frames n) e ≡ (isValid c e && not (isDropped omf frames n (frameOf c e)))
-  unfolding forgotten isValidIn flagAfter
+  unfolding forgotten flagsAfter isValidIn flagAfter
   forgotten-valid e = go (decLt e 32)
     where
       flag : (b : Bool) (x : ℕ) → eqb (cond b 0 x) 1 ≡ (eqb x 1 && not b)
@@ -81,7 +81,7 @@ module _ (c : Cache) (s : Sized c) (omf frames n : ℕ) where
       kept (lineOf c e) (frameOf c e) (bytesOf c e) (not-true (isDropped omf frames n (frameOf c e)) (both .1)) (all e (both .0))
 
   pub collected-sized : Sized (collected c omf frames n)
-  unfolding collected
+  unfolding collected framesAfter
   collected-sized =
       record {
         lines = s .lines;
@@ -96,7 +96,7 @@ module _ (c : Cache) (s : Sized c) (omf frames n : ℕ) where
   collected-shown = refl
 
   pub collected-frame : (e : ℕ) → e < 32 → frameOf (collected c omf frames n) e ≡ frameAfter omf frames n (frameOf c e)
-  unfolding collected
+  unfolding collected framesAfter
   collected-frame e b =
       rewrite-at (λ e frame. frameAfter omf frames n frame) (c .frames) 32 e b (omega (arith, s .frames))
 

@@ -11,10 +11,10 @@ use Rattle.rules.specs.Figure3.{setOf}
 use Rattle.frames.specs.Circle.{indexOf}
 use Rattle.cache.specs.declared.Cache.{Cache}
 use Rattle.cache.specs.declared.Entry.the-variants.{Hit, Miss}
-use Rattle.cache.specs.Entries.{frameOf, home, wayTaken, foundIn, isAtIn, isValidIn, wayIn}
+use Rattle.cache.specs.Entries.{home, wayTaken, foundIn, isAtIn, isValidIn, wayIn}
 use Rattle.frames.specs.Lists.{rewrite}
 use Rattle.frames.specs.Lines.{pasteLine}
-use Rattle.cache.specs.Steps.{archiveFrame, placed, isBelow, isDropped, flagAfter, forgotten, frameAfter, collected}
+use Rattle.cache.specs.Steps.{archiveFrame, placed, isBelow, isDropped, flagAfter, flagsAfter, frameAfter, framesAfter}
 
 module _ (valid : List ℕ) (e : ℕ) where
   pub valid-one : getD valid e 0 ≡ 1 → true ≡ isValidIn valid e
@@ -131,19 +131,16 @@ unfolding placed
 placed-done c line frame way content lines frames valid bytes last w el ef ev eb ea = cc (w .0, el, ef, ev, eb, ea)
 
 -- the loops' ends
-module _ (c : Cache) (omf frames n i : ℕ) (now : List ℕ) (most : i ≤ 32) (least : 32 ≤ i) where
-  pub forgotten-done : now ≡ rewrite i (λ e flag. flagAfter omf frames n (frameOf c e) flag) (c .valid)
-      → record { lines = c .lines; frames = c .frames; valid = now; bytes = c .bytes; last = c .last } ≡ forgotten c omf frames n
-  unfolding forgotten
-  forgotten-done e =
+module _ (omf frames n i : ℕ) (before now : List ℕ) (most : i ≤ 32) (least : 32 ≤ i) where
+  pub forgotten-done : (origins : List ℕ) → now ≡ rewrite i (λ e flag. flagAfter omf frames n (getD origins e 0) flag) before
+      → now ≡ flagsAfter origins omf frames n before
+  unfolding flagsAfter
+  forgotten-done origins e =
       let d : i ≡ 32 = omega arith in
-      ap (λ (v : List ℕ). record { lines = c .lines; frames = c .frames; valid = v; bytes = c .bytes; last = c .last })
-      (e ∙ ap (λ (k : ℕ). rewrite k (λ e flag. flagAfter omf frames n (frameOf c e) flag) (c .valid)) d)
+      e ∙ ap (λ (k : ℕ). rewrite k (λ e flag. flagAfter omf frames n (getD origins e 0) flag) before) d
 
-  pub collected-done : now ≡ rewrite i (λ e frame. frameAfter omf frames n frame) (c .frames)
-      → record { lines = c .lines; frames = now; valid = c .valid; bytes = c .bytes; last = c .last } ≡ collected c omf frames n
-  unfolding collected
+  pub collected-done : now ≡ rewrite i (λ e frame. frameAfter omf frames n frame) before → now ≡ framesAfter omf frames n before
+  unfolding framesAfter
   collected-done e =
       let d : i ≡ 32 = omega arith in
-      ap (λ (v : List ℕ). record { lines = c .lines; frames = v; valid = c .valid; bytes = c .bytes; last = c .last })
-      (e ∙ ap (λ (k : ℕ). rewrite k (λ e frame. frameAfter omf frames n frame) (c .frames)) d)
+      e ∙ ap (λ (k : ℕ). rewrite k (λ e frame. frameAfter omf frames n frame) before) d

@@ -5,24 +5,25 @@ use mathlib.Core.Bool.{Bool, true, false, cond, _&&_, false≢true}
 use mathlib.Core.Logic.{_≢_}
 use mathlib.Core.Option.{Option, none, some}
 use mathlib.Core.List.{List}
-use Prim.Native.Nat.{ℕ, zero, suc, _+_, _*_, _≤_, _<_}
+use Prim.Native.Nat.{ℕ, zero, suc, _+_, _*_, _/_, _%_, _≤_, _<_}
 use native.Mathlib.Decide.{ℕ-discrete}
 use native.Mathlib.Omega.{arith}
 use borrow.Author.Tests.{eqb-true, eqb-false}
 use lib.Dec.{eqb}
 use lib.ListN.{length, getD, set, replicate, length-set}
-use lib.Seq.{getD-set-same, getD-set-other}
+use lib.Seq.{getD-set-same, getD-set-other, set-getD}
 use Rattle.rules.specs.Settings.{Settings}
 use Rattle.rules.specs.Figure3 as figure
 use Rattle.rules.specs.Figure3.{Way, Ways, WellCache, setOf, emptyCache, use-line, wayFor}
 use Rattle.cache.specs.declared.Cache.{Cache}
 use Rattle.cache.specs.declared.Entry.the-variants.{Hit}
-use Rattle.cache.specs.Entries.{Sized, lineOf, frameOf, isValid, bytesOf, home, isAt, found, wayTaken, entryTaken, Has, SameAt, All, bytesIn, isAtIn, isValidIn}
+use Rattle.cache.specs.Entries.{cacheOf, Sized, lineOf, frameOf, isValid, bytesOf, home, isAt, found, wayTaken, entryTaken, Has, SameAt, All, bytesIn, isAtIn, isValidIn}
 use Rattle.cache.specs.Steps.{emptied, placed}
 use Rattle.cache.specs.Shown.{lineIn, wayOf, shown}
-use Rattle.frames.proofs.Lines.{length-written, read-own, read-other, apart}
+use Rattle.frames.specs.Lines.{lineAt, pasteLine}
+use Rattle.frames.proofs.Lines.{paste-own, length-written, read-own, read-other, apart}
 use Rattle.cache.proofs.Returns.{entry-room, found-first, found-second, taken-first}
-use Rattle.cache.proofs.Hits.{at-is, way-below, taken-below, way-shown, line-taken}
+use Rattle.cache.proofs.Hits.{at-is, found-at, way-below, taken-below, way-shown, line-taken}
 
 pub same-ways : {a b : Option ℕ} {p q : Option ℕ} {u v : Way} → a ≡ b → p ≡ q → u ≡ v
     → _≡_ {A = Ways} (record { first = a; second = p; last = u }) (record { first = b; second = q; last = v })
@@ -177,3 +178,17 @@ empty-all R e v = absurd (false≢true (sym (none-valid e) ∙ v))
 pub empty-sized : Sized emptied
 unfolding emptied
 empty-sized = record { lines = refl; frames = refl; valid = refl; bytes = refl; last = refl }
+
+-- A use of a line that the cache holds, with what its entry has: only the way used last is another.
+pub hit-placed : (c : Cache) (l e : ℕ) → found c l ≡ Hit e → (last : List ℕ) → last ≡ set (c .last) (e / 2) (e % 2)
+    → cacheOf (c .lines) (c .frames) (c .valid) (c .bytes) last ≡ placed c l (frameOf c e) (bytesOf c e)
+unfolding placed bytesIn isValidIn
+hit-placed c l e h last after =
+    let f = found-at c l e h in
+    let way : e % 2 ≡ wayTaken c l = omega (arith, f .taken, way-below c l) in
+    λ i.
+    cacheOf ((sym (ap₂ (set (c .lines)) (sym (f .taken)) (sym (f .line)) ∙ set-getD (c .lines) e 0)) i)
+    ((sym (ap (λ (x : ℕ). set (c .frames) x (frameOf c e)) (sym (f .taken)) ∙ set-getD (c .frames) e 0)) i)
+    ((sym (ap₂ (set (c .valid)) (sym (f .taken)) (sym (eqb-true (getD (c .valid) e 0) 1 (f .valid))) ∙ set-getD (c .valid) e 0)) i)
+    ((sym (ap (λ (x : ℕ). pasteLine (c .bytes) (16 * x) (lineAt (c .bytes) (16 * e))) (sym (f .taken)) ∙ paste-own (c .bytes) (16 * e))) i)
+    ((after ∙ ap₂ (set (c .last)) (f .set) way) i)

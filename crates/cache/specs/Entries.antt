@@ -19,6 +19,10 @@ pub record Sized (c : Cache) : Type 0 where
   pub bytes : length (c .bytes) ≡ 512
   pub last : length (c .last) ≡ 16
 
+-- A cache by its arrays, in the order of the functions' parameters.
+abbrev pub cacheOf : (held origins valid bytes last : List ℕ) → Cache
+cacheOf held origins valid bytes last = record { lines = held; frames = origins; valid = valid; bytes = bytes; last = last }
+
 -- What an entry has: its line, the frame of the line's most recent version, whether it is valid, its 16 bytes.
 abbrev pub lineOf : Cache → ℕ → ℕ
 lineOf c e = getD (c .lines) e 0

@@ -3,13 +3,13 @@ use Prim.Native.Nat.{ℕ, _*_}
 use mathlib.Core.Bool.{Bool, cond, not, _&&_}
 use mathlib.Core.List.{List}
 use lib.Dec.{eqb, ltb}
-use lib.ListN.{set, replicate}
+use lib.ListN.{getD, set, replicate}
 use Rattle.rules.specs.Figure3.{setOf}
 use Rattle.frames.specs.Lists.{rewrite}
 use Rattle.frames.specs.Lines.{pasteLine}
 use Rattle.frames.specs.Circle.{indexOf}
 use Rattle.cache.specs.declared.Cache.{Cache}
-use Rattle.cache.specs.Entries.{frameOf, wayTaken, entryTaken}
+use Rattle.cache.specs.Entries.{cacheOf, wayTaken, entryTaken}
 
 -- The frame number of an entry whose line's most recent version is the archive's.
 abbrev pub archiveFrame : ℕ
@@ -45,26 +45,24 @@ isDropped omf frames kept frame = not (eqb frame archiveFrame) && not (isBelow o
 unfoldable pub flagAfter : (omf frames kept frame flag : ℕ) → ℕ
 flagAfter omf frames kept frame flag = cond (isDropped omf frames kept frame) 0 flag
 
+unfoldable pub flagsAfter : (origins : List ℕ) → (omf frames kept : ℕ) → (valid : List ℕ) → List ℕ
+flagsAfter origins omf frames kept valid = rewrite 32 (λ e flag. flagAfter omf frames kept (getD origins e 0) flag) valid
+
+abbrev pub withFlags : Cache → (valid : List ℕ) → Cache
+withFlags c valid = cacheOf (c .lines) (c .frames) valid (c .bytes) (c .last)
+
 unfoldable pub forgotten : Cache → (omf frames kept : ℕ) → Cache
-forgotten c omf frames kept =
-    record {
-      lines = c .lines;
-      frames = c .frames;
-      valid = rewrite 32 (λ e flag. flagAfter omf frames kept (frameOf c e) flag) (c .valid);
-      bytes = c .bytes;
-      last = c .last;
-    }
+forgotten c omf frames kept = withFlags c (flagsAfter (c .frames) omf frames kept (c .valid))
 
 -- The frame number of an entry after an advance over k frames: "Lines collected by ADVANCE keep their entries and count as archive."
 unfoldable pub frameAfter : (omf frames k frame : ℕ) → ℕ
 frameAfter omf frames k frame = cond (isBelow omf frames k frame) archiveFrame frame
 
+unfoldable pub framesAfter : (omf frames k : ℕ) → (origins : List ℕ) → List ℕ
+framesAfter omf frames k origins = rewrite 32 (λ e frame. frameAfter omf frames k frame) origins
+
+abbrev pub withOrigins : Cache → (origins : List ℕ) → Cache
+withOrigins c origins = cacheOf (c .lines) origins (c .valid) (c .bytes) (c .last)
+
 unfoldable pub collected : Cache → (omf frames k : ℕ) → Cache
-collected c omf frames k =
-    record {
-      lines = c .lines;
-      frames = rewrite 32 (λ e frame. frameAfter omf frames k frame) (c .frames);
-      valid = c .valid;
-      bytes = c .bytes;
-      last = c .last;
-    }
+collected c omf frames k = withOrigins c (framesAfter omf frames k (c .frames))

@@ -1,15 +1,15 @@
-// The cache: 16 sets of two ways, a struct by value. Every function is safe on any contents of the struct.
-// The functions with a `requires` are called by our own crates alone, which test what it asks.
+// The cache: 16 sets of two ways, a struct by value. The functions take its arrays where they lie, and are safe on any contents of them.
+// Those with a `requires` are called by our own crates alone, which test what it asks.
 ghost use mathlib.Core.Path.{_≡_};
-ghost use Prim.Native.Nat.{_*_, _<_};
+ghost use Prim.Native.Nat.{_*_, _/_, _%_, _<_};
 ghost use lib.ListN;
 ghost use lib.ListN.{length, getD};
 ghost use Rattle.rules.specs.Figure3.{emptyCache};
 ghost use Rattle.frames.specs.Circle.{Turn};
 ghost use Rattle.frames.specs.Lines.{pasteLine};
-ghost use Rattle.cache.specs.Entries.{isValidIn, bytesIn, bytesOf, isAtIn, foundIn, wayIn};
-ghost use Rattle.cache.specs.Steps.{emptied, isBelow, flagAfter, forgotten, frameAfter, collected};
-ghost use Rattle.cache.specs.Shown.{shown, Forgets};
+ghost use Rattle.cache.specs.Entries.{cacheOf, isValidIn, bytesIn, bytesOf, isAtIn, foundIn, wayIn};
+ghost use Rattle.cache.specs.Steps.{emptied, placed, isBelow, flagAfter, flagsAfter, frameAfter, framesAfter};
+ghost use Rattle.cache.specs.Shown.{shown};
 
 // The entry of a set's way is 2 * set + way.
 #[repr(C)]
@@ -120,11 +120,19 @@ pub fn way_for<'a>(lines: &'a [u32; 32], valid: &'a [u8; 32], last: &'a [u8; 16]
     0
 }
 
+// That the bytes are 512 is in their type, and code that has them behind a reference learns it here. The copy is never read, so that
+// nothing of it is left in the compiled code.
+fn has_all(bytes: [u8; 512])
+    ensures { λ _. ⌜ length bytes ≡ 512 ⌝ }
+{}
+
 // The 16 bytes of an entry.
 pub fn line_at(bytes: &[u8; 512], entry: u32) -> [u8; 16]
-    requires { ⌜ (entry < 32) × (length (now bytes) ≡ 512) ⌝ }
+    requires { ⌜ entry < 32 ⌝ }
     ensures { λ r. ⌜ r ≡ bytesIn (now (bytes .entry)) entry ⌝ }
 {
+    let all = *bytes;
+    has_all(all);
     let from = 16 * (entry as usize);
     let mut line = [0u8; 16];
     let mut i = 0;
@@ -153,7 +161,7 @@ pub fn frame_of(frames: &[u16; 32], entry: u32) -> u16
 }
 
 // Gives an entry its line,
-pub fn set_line(lines: &mut [u32; 32], entry: u32, line: u32)
+fn set_line(lines: &mut [u32; 32], entry: u32, line: u32)
     requires { ⌜ entry < 32 ⌝ }
     ensures { λ _. ⌜ now (lines .exit) ≡ ListN.set (now (lines .entry)) entry line ⌝ }
 {
@@ -162,7 +170,7 @@ pub fn set_line(lines: &mut [u32; 32], entry: u32, line: u32)
 }
 
 // the frame of its line's most recent version,
-pub fn set_frame(frames: &mut [u16; 32], entry: u32, frame: u16)
+fn set_frame(frames: &mut [u16; 32], entry: u32, frame: u16)
     requires { ⌜ entry < 32 ⌝ }
     ensures { λ _. ⌜ now (frames .exit) ≡ ListN.set (now (frames .entry)) entry frame ⌝ }
 {
@@ -171,7 +179,7 @@ pub fn set_frame(frames: &mut [u16; 32], entry: u32, frame: u16)
 }
 
 // its valid flag
-pub fn set_valid(valid: &mut [u8; 32], entry: u32)
+fn set_valid(valid: &mut [u8; 32], entry: u32)
     requires { ⌜ entry < 32 ⌝ }
     ensures { λ _. ⌜ now (valid .exit) ≡ ListN.set (now (valid .entry)) entry 1 ⌝ }
 {
@@ -180,10 +188,12 @@ pub fn set_valid(valid: &mut [u8; 32], entry: u32)
 }
 
 // and its bytes.
-pub fn set_bytes(bytes: &mut [u8; 512], entry: u32, line: [u8; 16])
-    requires { ⌜ (entry < 32) × (length (now bytes) ≡ 512) ⌝ }
+fn set_bytes(bytes: &mut [u8; 512], entry: u32, line: [u8; 16])
+    requires { ⌜ entry < 32 ⌝ }
     ensures { λ _. ⌜ now (bytes .exit) ≡ pasteLine (now (bytes .entry)) (16 * entry) line ⌝ }
 {
+    let all = *bytes;
+    has_all(all);
     let from = 16 * (entry as usize);
     let mut i = 0;
     while i < 16 {
@@ -193,12 +203,44 @@ pub fn set_bytes(bytes: &mut [u8; 512], entry: u32, line: [u8; 16])
 }
 
 // Notes the way of a set that was used last.
-pub fn set_last(last: &mut [u8; 16], set: u32, way: u32)
+fn set_last(last: &mut [u8; 16], set: u32, way: u32)
     requires { ⌜ (set < 16) × (way < 2) ⌝ }
     ensures { λ _. ⌜ now (last .exit) ≡ ListN.set (now (last .entry)) set way ⌝ }
 {
     let at = set as usize;
     last[at] = way as u8;
+}
+
+// A use of a line, by a read or a write: the way taken has it with this frame and these bytes and was used last.
+pub fn place(
+    held: &mut [u32; 32],
+    origins: &mut [u16; 32],
+    valid: &mut [u8; 32],
+    bytes: &mut [u8; 512],
+    last: &mut [u8; 16],
+    line: u32,
+    frame: u16,
+    content: [u8; 16],
+)
+    ensures { λ _. ⌜ cacheOf (now (held .exit)) (now (origins .exit)) (now (valid .exit)) (now (bytes .exit)) (now (last .exit))
+        ≡ placed (cacheOf (now (held .entry)) (now (origins .entry)) (now (valid .entry)) (now (bytes .entry)) (now (last .entry))) line frame content ⌝ }
+{
+    let way = way_for(held, valid, last, line);
+    let set = line % 16;
+    let entry = 2 * set + way;
+    set_line(held, entry, line);
+    set_frame(origins, entry, frame);
+    set_valid(valid, entry);
+    set_bytes(bytes, entry, content);
+    set_last(last, set, way);
+}
+
+// A use of the line that an entry holds: its way was used last, and the entry stays as it is.
+pub fn recall(last: &mut [u8; 16], entry: u32)
+    requires { ⌜ entry < 32 ⌝ }
+    ensures { λ _. ⌜ now (last .exit) ≡ ListN.set (now (last .entry)) (entry / 2) (entry % 2) ⌝ }
+{
+    set_last(last, entry / 2, entry % 2);
 }
 
 // Whether a frame number lies on the circle with an index from OMF below n.
@@ -230,27 +272,15 @@ fn flag_after(frame: u16, flag: u8, omf: u32, frames: u32, kept: u32) -> u8
     0
 }
 
-// The cache after a rollback that keeps the frames with an index below `kept`.
-pub fn forget(cache: Cache, omf: u32, frames: u32, kept: u32) -> Cache
+// A rollback that keeps the frames with an index below `kept`: the entries of the others are no longer valid.
+pub fn forget(origins: &[u16; 32], valid: &mut [u8; 32], omf: u32, frames: u32, kept: u32)
     requires { ⌜ Turn frames omf omf ⌝ }
-    ensures { λ r. ⌜ (r ≡ forgotten cache omf frames kept) × Forgets cache omf frames kept r ⌝ }
+    ensures { λ _. ⌜ now (valid .exit) ≡ flagsAfter (now (origins .entry)) omf frames kept (now (valid .entry)) ⌝ }
 {
-    let held = cache.frames;
-    let mut valid = cache.valid;
     let mut i = 0;
     while i < 32 {
-        valid[i] = flag_after(held[i], valid[i], omf, frames, kept);
+        valid[i] = flag_after(origins[i], valid[i], omf, frames, kept);
         i += 1;
-    }
-    let lines = cache.lines;
-    let bytes = cache.bytes;
-    let last = cache.last;
-    Cache {
-        lines,
-        frames: held,
-        valid,
-        bytes,
-        last,
     }
 }
 
@@ -265,26 +295,14 @@ fn frame_after(frame: u16, omf: u32, frames: u32, k: u32) -> u16
     frame
 }
 
-// The cache after an advance over the k frames from this OMF on: their lines count as the archive's.
-pub fn collect(cache: Cache, omf: u32, frames: u32, k: u32) -> Cache
+// An advance over the k frames from this OMF on: their lines count as the archive's.
+pub fn collect(origins: &mut [u16; 32], omf: u32, frames: u32, k: u32)
     requires { ⌜ Turn frames omf omf ⌝ }
-    ensures { λ r. ⌜ (r ≡ collected cache omf frames k) × (shown r ≡ shown cache) ⌝ }
+    ensures { λ _. ⌜ now (origins .exit) ≡ framesAfter omf frames k (now (origins .entry)) ⌝ }
 {
-    let mut held = cache.frames;
     let mut i = 0;
     while i < 32 {
-        held[i] = frame_after(held[i], omf, frames, k);
+        origins[i] = frame_after(origins[i], omf, frames, k);
         i += 1;
-    }
-    let lines = cache.lines;
-    let valid = cache.valid;
-    let bytes = cache.bytes;
-    let last = cache.last;
-    Cache {
-        lines,
-        frames: held,
-        valid,
-        bytes,
-        last,
     }
 }

@@ -140,7 +140,7 @@ fn step(
         call.kind,
         expected,
         state_after.tag,
-        state.cmf,
+        state.registers.cmf,
         state_after.cmf,
     );
     let counted = tally::judged(tally, call, deed, answer, expected);

@@ -235,7 +235,7 @@ fn part(have: usize, need: usize, short: bool) -> usize
 
 // What the archive needs: RESET's by the settings asked for, every other call's by those of the store. The history always has 256 places.
 fn archive_need(state: State, call: Call) -> usize {
-    let mut lines = state.lines;
+    let mut lines = state.registers.lines;
     if call.kind == copies::RESET {
         lines = call.a;
     }

@@ -1,8 +1,8 @@
 -- Frames and their indexes from OMF, one to one round the circle. Assumes nothing.
 use mathlib.Core.Path.{_≡_, sym}
 use mathlib.Core.Logic.{inl, inr, ⊎-elim}
-use Prim.Native.Nat.{ℕ, _+_, _-_, _%_, _<_}
-use native.Mathlib.Nat.{mod-lt}
+use Prim.Native.Nat.{ℕ, _+_, _-_, _%_, _≤_, _<_}
+use native.Mathlib.Nat.{mod-lt, mod-eq-of-lt}
 use native.Mathlib.Omega.{arith}
 use Rattle.rules.proofs.Circle.{wrap, Reaches, index-reaches, reaches-index}
 use mir.Syntax.{w32}
@@ -37,6 +37,25 @@ module _ (n omf : ℕ) (h : omf < n) where
     where
       i : ℕ
       i = (f + n - omf) % n
+
+-- The same without a division, as the code has them: a place goes round the circle at most once.
+module _ (n omf place : ℕ) (t : Turn n omf place) where
+  pub frame-on : omf + place < n → omf + place ≡ frameAt n omf place
+  unfolding frameAt
+  frame-on h = sym (mod-eq-of-lt h)
+
+  pub frame-round : n ≤ omf + place → omf + place - n ≡ frameAt n omf place
+  frame-round h =
+      ⊎-elim (λ e. absurd (omega (arith, e, frame-below n omf (t .omf-below) place))) (λ e. omega (arith, e))
+      (frame-cases n omf (t .omf-below) place (t .below))
+
+  pub index-on : omf ≤ place → place - omf ≡ indexOf n omf place
+  unfolding indexOf
+  index-on h = sym (reaches-index n place omf (place - omf) (t .below) (t .omf-below) (omega arith) (inl (omega arith)))
+
+  pub index-round : place < omf → place + n - omf ≡ indexOf n omf place
+  unfolding indexOf
+  index-round h = sym (mod-eq-of-lt (omega arith))
 
 -- one more than an index fits its type
 pub live-small : (n omf f r : ℕ) → r ≡ indexOf n omf f → Turn n omf f → Fits w32 (r + 1)

@@ -8,7 +8,7 @@ use native.Mathlib.Decide.{decLt}
 use native.Mathlib.Numerals.{add-one}
 use native.Mathlib.Omega.{arith}
 use lib.ListN.{length, getD, set, take, drop, length-set, length-drop, drop-of-length-le, take-append-drop, List·getD-eq-default}
-use lib.Seq.{paste, paste-suc, paste-zero, length-paste, drop-paste, length-take-le, take-at, drop-at, take-all, take-append-le, drop-append-le, take-append-add, drop-append-add, drop-drop, getD-take, getD-drop}
+use lib.Seq.{paste, paste-suc, paste-zero, length-paste, drop-paste, length-take-le, take-at, drop-at, take-all, take-append-le, drop-append-le, take-append-add, drop-append-add, take-take, drop-drop, getD-take, getD-drop}
 use Rattle.rules.specs.Line.{IsLine}
 use Rattle.frames.specs.Lines.{lineAt, pasteLine}
 
@@ -99,6 +99,15 @@ module _ (xs ys : List ℕ) (at : ℕ) where
       ap₂ (λ (us vs : List ℕ). us ++ take 16 x ++ vs) (take-append-add xs ys at)
       (ap (λ (n : ℕ). drop n (xs ++ ys)) (add-assoc (length xs) at 16) ∙ drop-append-add xs ys (at + 16))
       ∙ simp append-assoc
+
+-- ---- a line written where it stands already
+pub paste-own : (xs : List ℕ) (at : ℕ) → pasteLine xs at (lineAt xs at) ≡ xs
+unfolding lineAt pasteLine
+paste-own xs at =
+    ap (λ (ys : List ℕ). take at xs ++ ys ++ drop (at + 16) xs) (take-take 16 16 (drop at xs) (omega arith))
+    ∙ (append-assoc (take at xs) (take 16 (drop at xs)) (drop (at + 16) xs)
+    ∙ (ap (λ (ys : List ℕ). take at xs ++ (take 16 (drop at xs) ++ ys)) (sym (drop-drop 16 at xs))
+    ∙ (ap (λ (ys : List ℕ). take at xs ++ ys) (take-append-drop 16 (drop at xs)) ∙ take-append-drop at xs)))
 
 -- ---- after a line is written at a place
 module _ (xs x : List ℕ) (at : ℕ) (room : at + 16 ≤ length xs) (long : length x ≡ 16) where

@@ -17,7 +17,10 @@ pub fn index(frame: u32, omf: u32, frames: u32) -> u32
     requires { ⌜ Turn frames omf frame ⌝ }
     ensures { λ r. ⌜ r ≡ indexOf frames omf frame ⌝ }
 {
-    (frame + frames - omf) % frames
+    if omf <= frame {
+        return frame - omf;
+    }
+    frame + frames - omf
 }
 
 // The frame of an index from OMF.
@@ -25,7 +28,11 @@ pub fn frame_at(index: u32, omf: u32, frames: u32) -> u32
     requires { ⌜ Turn frames omf index ⌝ }
     ensures { λ r. ⌜ r ≡ frameAt frames omf index ⌝ }
 {
-    (omf + index) % frames
+    let frame = omf + index;
+    if frame < frames {
+        return frame;
+    }
+    frame - frames
 }
 
 // How many frames are live, from OMF to CMF round the circle.

@@ -1,7 +1,7 @@
 -- The loops that read a value of some bytes from a line and write it there, with the width as a parameter. Assumes nothing.
-use mathlib.Core.Path.{_≡_, sym, _∙_, ap, ap₂}
+use mathlib.Core.Path.{_≡_, sym, _∙_, ap, ap₂, subst}
 use mathlib.Core.List.{List, _∷_, _++_}
-use Prim.Native.Nat.{ℕ, suc, _+_, _-_, _*_, _/_, _%_, _^_, _≤_, _<_}
+use Prim.Native.Nat.{ℕ, suc, _+_, _-_, _*_, _/_, _%_, _^_, _≤_, _<_, min}
 use native.Mathlib.Nat.{add-zero, div-one, div-div-eq-div-mul, pow-suc, pow-le-pow-right, mul-le-mul-right, suc-mul}
 use native.Mathlib.Numerals.{add-one}
 use native.Mathlib.Omega.{arith}
@@ -18,7 +18,7 @@ pub record Reading (width offset : ℕ) (x : Line) (at value : ℕ) : Type 0 whe
   pub small : value < 256 ^ (at - offset)
   pub same : valueAt width offset x ≡ valueOf value (take (offset + width - at) (drop at x))
 
-pub reading-start : (width offset : ℕ) (x : Line) → Reading width offset x offset 0
+reading-start : (width offset : ℕ) (x : Line) → Reading width offset x offset 0
 unfolding valueAt
 reading-start width offset x =
     let a : 0 ≡ offset - offset = omega arith in
@@ -43,12 +43,12 @@ module _ {width offset : ℕ} {x : Line} {at value : ℕ} (asks : AsksBytes widt
       let e : at + 1 - offset ≡ suc (at - offset) = omega (arith, r .from) in
       rw e (omega (arith, pow-suc 256 (at - offset), mul-le-mul-right 256 (r .small), suc-mul value 256))
 
-  pub value-fits : at < offset + width → value * 256 + 255 < 4294967296
+  value-fits : at < offset + width → value * 256 + 255 < 4294967296
   value-fits h =
       let few : at + 1 - offset ≤ 4 = omega (arith, asks .width-few) in
       omega (arith, value-room h, pow-le-pow-right {n = 256} (omega arith) few)
 
-  pub reading-next : length x ≡ 16 → at < offset + width → (b : ℕ) → b ≡ getD x at 0 → b < 256
+  reading-next : length x ≡ 16 → at < offset + width → (b : ℕ) → b ≡ getD x at 0 → b < 256
       → Reading width offset x (at + 1) (value * 256 + b)
   reading-next l h b e s =
       let n : ℕ = offset + width - (at + 1) in
@@ -64,11 +64,40 @@ module _ {width offset : ℕ} {x : Line} {at value : ℕ} (asks : AsksBytes widt
             ∙ ap₂ (λ (y k : ℕ). valueOf (value * 256 + y) (take n (drop k x))) (sym e) (sym (add-one at))));
       }
 
-  pub reading-end : offset + width ≤ at → value ≡ valueAt width offset x
+  reading-end : offset + width ≤ at → value ≡ valueAt width offset x
   unfolding valueOf
   reading-end h =
       let d : offset + width - at ≡ 0 = omega arith in
       sym (r .same ∙ ap (λ (k : ℕ). valueOf value (take k (drop at x))) d)
+
+-- Four steps for every width: the value is read once as many are done as it has bytes.
+abbrev After : (width offset : ℕ) → Line → (i value : ℕ) → Type 0
+After width offset x i value = Reading width offset x (offset + min i width) value
+
+pub reading-first : (width offset : ℕ) (x : Line) → After width offset x 0 0
+reading-first width offset x =
+    let e : offset ≡ offset + min 0 width = omega arith in
+    subst (λ (at : ℕ). Reading width offset x at 0) e (reading-start width offset x)
+
+module _ {width offset : ℕ} {x : Line} {i value : ℕ} (asks : AsksBytes width offset) (r : After width offset x i value) where
+  pub more-fits : i < width → value * 256 + 255 < 4294967296
+  more-fits h = value-fits asks r (omega arith)
+
+  pub reading-more : i < width → length x ≡ 16 → (at b : ℕ) → at ≡ min (offset + i) 15 → (b ≡ getD x at 0) × (b < 256)
+      → (v : ℕ) → v ≡ value * 256 + b → After width offset x (i + 1) v
+  reading-more h l at b e is v new =
+      let here : at ≡ offset + min i width = omega (arith, asks .inside) in
+      let next : offset + min i width + 1 ≡ offset + min (i + 1) width = omega arith in
+      rw new (subst (λ (n : ℕ). Reading width offset x n (value * 256 + b)) next
+      (reading-next asks r l (omega arith) b (is .0 ∙ ap (λ (n : ℕ). getD x n 0) here) (is .1)))
+
+  pub reading-stays : width ≤ i → (v : ℕ) → v ≡ value → After width offset x (i + 1) v
+  reading-stays h v new =
+      let same : offset + min i width ≡ offset + min (i + 1) width = omega arith in
+      rw new (subst (λ (n : ℕ). Reading width offset x n value) same r)
+
+  pub reading-done : 4 ≤ i → value ≡ valueAt width offset x
+  reading-done h = reading-end asks r (omega (arith, asks .width-few))
 
 -- ---- writing
 -- The bytes from a place of the line on are written, the last of the value's; what is left of the value are the bytes before them.

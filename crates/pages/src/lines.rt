@@ -75,17 +75,20 @@ pub fn wide(x: u8) -> u32
     x as u32
 }
 
-// The value of so many bytes of a line, from an offset on.
+// The value of so many bytes of a line, from an offset on: four steps for every width, so that no jump depends on it.
 pub fn value_of(line: [u8; 16], width: u32, offset: u32) -> u32
     requires { ⌜ AsksBytes width offset ⌝ }
     ensures { λ r. ⌜ r ≡ valueAt width offset line ⌝ }
 {
-    let end = (offset + width) as usize;
-    let mut at = offset as usize;
     let mut value = 0;
-    while at < end {
-        value = value * 256 + wide(line[at]);
-        at += 1;
+    let mut i = 0;
+    while i < 4 {
+        let at = frames::least(offset + i, 15) as usize;
+        let byte = wide(line[at]);
+        if i < width {
+            value = value * 256 + byte;
+        }
+        i += 1;
     }
     value
 }

@@ -84,45 +84,45 @@ module _ (s : Settings) (cmf omf owners live : ℕ) (archive pool groups table h
 
 -- What an admitted state and lent memory have.
 module _ (x : Storage) (z : admittedIn x 0 ≡ 0) where
-  admitted-fits : stateFits (settingsIn (x .state)) (x .state .cmf) (x .state .omf) ≡ true
+  admitted-fits : stateFits (settingsIn (x .state)) (x .state .registers .cmf) (x .state .registers .omf) ≡ true
   unfolding admitted
-  admitted-fits = passed (stateFits (settingsIn (x .state)) (x .state .cmf) (x .state .omf)) 5 _ (omega arith) z .0
+  admitted-fits = passed (stateFits (settingsIn (x .state)) (x .state .registers .cmf) (x .state .registers .omf)) 5 _ (omega arith) z .0
 
   admitted-long : enough (settingsIn (x .state)) (lengthsIn (x .memory)) ≡ true
   unfolding admitted
   admitted-long =
       passed (enough (settingsIn (x .state)) (lengthsIn (x .memory))) 6 0 (omega arith)
-      (passed (stateFits (settingsIn (x .state)) (x .state .cmf) (x .state .omf)) 5 _ (omega arith) z .1) .0
+      (passed (stateFits (settingsIn (x .state)) (x .state .registers .cmf) (x .state .registers .omf)) 5 _ (omega arith) z .1) .0
 
-  room : Room (settingsIn (x .state)) (x .state .cmf) (x .state .omf) (lengthsIn (x .memory))
+  room : Room (settingsIn (x .state)) (x .state .registers .cmf) (x .state .registers .omf) (lengthsIn (x .memory))
   room = admitted-room _ _ _ _ _ 0 refl z
 
   -- Lent bytes make lines.
-  archive-lines : Bytes (16 * x .state .lines) (x .memory .archive) → (l : ℕ) → IsLine (archiveIn x l)
+  archive-lines : Bytes (16 * x .state .registers .lines) (x .memory .archive) → (l : ℕ) → IsLine (archiveIn x l)
   unfolding archiveIn elements initial
-  archive-lines bytes l = go (decLt l (x .state .lines))
+  archive-lines bytes l = go (decLt l (x .state .registers .lines))
     where
-      go : Dec (l < x .state .lines) → IsLine (archiveIn x l)
+      go : Dec (l < x .state .registers .lines) → IsLine (archiveIn x l)
       go (yes b) =
-          subst IsLine (sym (ap (λ (t : Bool). cond t (archiveLine (x .memory .archive) l) zeros) (lt-ltb l (x .state .lines) b)))
+          subst IsLine (sym (ap (λ (t : Bool). cond t (archiveLine (x .memory .archive) l) zeros) (lt-ltb l (x .state .registers .lines) b)))
           (is-line (x .memory .archive) (16 * l) (omega (arith, room .long .archive)) (λ i h. bytes i (omega arith)))
       go (no b) = subst IsLine (sym (archive-past x l (omega arith))) (initial-well (settingsIn (x .state)) (room .good) .archive-line l)
 
-  module _ (q : Findable x) (bytes : Bytes (128 * x .state .pages) (x .memory .pool)) where
-    version-line : (i l : ℕ) → i < liveIn (x .state) → l < x .state .lines → effective (writtenIn x) i l ≡ true → IsLine (versionAt x i l)
+  module _ (q : Findable x) (bytes : Bytes (128 * x .state .registers .pages) (x .memory .pool)) where
+    version-line : (i l : ℕ) → i < liveIn (x .state) → l < x .state .registers .lines → effective (writtenIn x) i l ≡ true → IsLine (versionAt x i l)
     unfolding versionAt pageOf placeAt elements
     version-line i l h b e =
         let p = page-known x q i l h b e in
         is-line (x .memory .pool) _ (omega (arith, p, room .long .pool)) (λ k c. bytes k (omega (arith, p)))
 
     version-lines : (j l : ℕ) (v : Line) → frameIn x j l ≡ some v → IsLine v
-    version-lines j l v e = go (decLt j (liveIn (x .state))) (decLt l (x .state .lines))
+    version-lines j l v e = go (decLt j (liveIn (x .state))) (decLt l (x .state .registers .lines))
       where
         some-line : (t : Bool) (w : Line) → (t ≡ true → IsLine w) → cond t (some w) none ≡ some v → IsLine v
         some-line true w h d = subst IsLine (Option·some-injective w v d) (h refl)
         some-line false w h d = absurd (Option·none-ne-some v d)
 
-        go : Dec (j < liveIn (x .state)) → Dec (l < x .state .lines) → IsLine v
+        go : Dec (j < liveIn (x .state)) → Dec (l < x .state .registers .lines) → IsLine v
         go (yes h) (yes b) =
             some-line (effective (writtenIn x) (indexBack (x .state) j) l) (versionAt x (indexBack (x .state) j) l)
             (version-line (indexBack (x .state) j) l (omega arith) b) (sym (frame-at x j l h b) ∙ e)
@@ -130,25 +130,25 @@ module _ (x : Storage) (z : admittedIn x 0 ≡ 0) where
         go (no h) b = absurd (Option·none-ne-some v (sym (frame-live x j l (omega arith)) ∙ e))
 
 -- The parts of well-formed storage, each as its test decides it: the written bits,
-pub bits-part : (x : Storage) (live : ℕ) → live ≡ liveIn (x .state) → WellStore x → WellBits (writtenIn x) (x .state .tag) live
-bits-part x live counted q = subst (WellBits (writtenIn x) (x .state .tag)) (sym counted) (q .bits)
+pub bits-part : (x : Storage) (live : ℕ) → live ≡ liveIn (x .state) → WellStore x → WellBits (writtenIn x) (x .state .registers .tag) live
+bits-part x live counted q = subst (WellBits (writtenIn x) (x .state .registers .tag)) (sym counted) (q .bits)
 
 -- the cache's entries,
-pub entries-part : (x : Storage) → WellStore x → WellCache (settingsOf (x .state .lines) 0 0) (shown (x .state .cache))
+pub entries-part : (x : Storage) → WellStore x → WellCache (settingsOf (x .state .registers .lines) 0 0) (shown (x .state .cache))
 entries-part x q = record { first = q .entries .first; second = q .entries .second; once = q .entries .once }
 
 -- and their bytes and frames; the test of these comes last and decides the whole.
 module _ (x : Storage) (z : admittedIn x 0 ≡ 0) (live : ℕ) (counted : live ≡ liveIn (x .state)) where
   abbrev newest : ℕ → Version
-  newest l = newestOf (writtenIn x) (x .state .pages) live (x .memory .archive) (x .memory .pool) (x .memory .table) l
+  newest l = newestOf (writtenIn x) (x .state .registers .pages) live (x .memory .archive) (x .memory .pool) (x .memory .table) l
 
-  newest-is : Findable x → (l : ℕ) → l < x .state .lines → (newest l .content ≡ latestIn x l) × (newest l .frame ≡ newestFrame x l)
+  newest-is : Findable x → (l : ℕ) → l < x .state .registers .lines → (newest l .content ≡ latestIn x l) × (newest l .frame ≡ newestFrame x l)
   newest-is q l b =
-      let r = newest-told x q l b (newest l) (ap (λ (n : ℕ). newestOf (writtenIn x) (x .state .pages) n (x .memory .archive) (x .memory .pool) (x .memory .table) l) counted) in
+      let r = newest-told x q l b (newest l) (ap (λ (n : ℕ). newestOf (writtenIn x) (x .state .registers .pages) n (x .memory .archive) (x .memory .pool) (x .memory .table) l) counted) in
       (r .0, r .1)
 
   abbrev RecentAll : Type 0
-  RecentAll = All (RecentIn (writtenIn x) (x .state .pages) live (x .memory .archive) (x .memory .pool) (x .memory .table)) (x .state .cache)
+  RecentAll = All (RecentIn (writtenIn x) (x .state .registers .pages) live (x .memory .archive) (x .memory .pool) (x .memory .table)) (x .state .cache)
 
   recent-part : WellStore x → RecentAll
   recent-part q e v =
@@ -157,14 +157,14 @@ module _ (x : Storage) (z : admittedIn x 0 ≡ 0) (live : ℕ) (counted : live �
       let n = newest-is (well-findable x q) (lineOf (x .state .cache) e) b in
       (b, c .0 ∙ sym (n .0), c .1 ∙ sym (n .1))
 
-  pub well-decided : (b p c r : Bool) → Decides b (WellBits (writtenIn x) (x .state .tag) live) → not b ≡ false
-      → Decides p (Confirmed (neededAt (writtenIn x)) (placesOf (writtenIn x)) (x .state .pages) (λ y. getD (x .memory .table) y 0) (λ p. getD (x .memory .owners) p 0))
-      → not p ≡ false → Decides c (WellCache (settingsOf (x .state .lines) 0 0) (shown (x .state .cache))) → not c ≡ false
-      → Bytes (16 * x .state .lines) (x .memory .archive) → Bytes (128 * x .state .pages) (x .memory .pool) → Sized (x .state .cache) → Decides r RecentAll → Decides r (WellStore x)
+  pub well-decided : (b p c r : Bool) → Decides b (WellBits (writtenIn x) (x .state .registers .tag) live) → not b ≡ false
+      → Decides p (Confirmed (neededAt (writtenIn x)) (placesOf (writtenIn x)) (x .state .registers .pages) (λ y. getD (x .memory .table) y 0) (λ p. getD (x .memory .owners) p 0))
+      → not p ≡ false → Decides c (WellCache (settingsOf (x .state .registers .lines) 0 0) (shown (x .state .cache))) → not c ≡ false
+      → Bytes (16 * x .state .registers .lines) (x .memory .archive) → Bytes (128 * x .state .registers .pages) (x .memory .pool) → Sized (x .state .cache) → Decides r RecentAll → Decides r (WellStore x)
   well-decided b p c r bits bits-pass pages pages-pass cache cache-pass archive pool sized recent =
       record { only = λ e. well (recent .only e); always = λ q. recent .always (recent-part q) }
     where
-      entries : WellCache (settingsOf (x .state .lines) 0 0) (shown (x .state .cache))
+      entries : WellCache (settingsOf (x .state .registers .lines) 0 0) (shown (x .state .cache))
       entries = passes c cache cache-pass
 
       findable : Findable x
@@ -175,7 +175,7 @@ module _ (x : Storage) (z : admittedIn x 0 ≡ 0) (live : ℕ) (counted : live �
           record {
             fits = admitted-fits x z;
             long = admitted-long x z;
-            bits = subst (WellBits (writtenIn x) (x .state .tag)) counted (passes b bits bits-pass);
+            bits = subst (WellBits (writtenIn x) (x .state .registers .tag)) counted (passes b bits bits-pass);
             pages = findable .pages;
             sized = sized;
             version-line = version-lines x z findable pool;

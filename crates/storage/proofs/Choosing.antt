@@ -27,7 +27,7 @@ use Rattle.pages.proofs.Holding.{all-held, some-free, held-count}
 use Rattle.pages.proofs.Claiming.{free-of, one-page, given-free, given-none}
 use Rattle.pages.proofs.Keeping.{needed-place, place-within, set-confirmed, claimed-confirmed}
 use Rattle.versions.specs.Newest.{entryPlace}
-use Rattle.versions.specs.Steps.{pageFor}
+use Rattle.versions.specs.Steps.{namedPage, pageFor}
 use Rattle.storage.specs.Storage.{Storage, liveIn, writtenIn, frameIn, WellStore, store}
 use Rattle.storage.proofs.Limits.{Limits, limits, lent-long}
 use Rattle.storage.proofs.Counting.{written-effective, pages-counted}
@@ -51,7 +51,7 @@ at-some e = false≢true (sym (ap is-at e))
 
 -- A page chosen is one of the pages, on any storage.
 pub page-below : (w : Written) (pages hint : ℕ) (table owners : List ℕ) (frame l p : ℕ) → pageFor w pages hint table owners frame l ≡ At p → p < pages
-unfolding pageFor
+unfolding pageFor namedPage
 page-below w pages hint table owners frame l p e = go (needs (effective w (indexOf (w .frames) (w .omf) frame)) (l / 8)) (decLt entry pages) e
   where
     entry : ℕ
@@ -63,7 +63,7 @@ page-below w pages hint table owners frame l p e = go (needs (effective w (index
     go false h e = given-free pages (min hint pages) (heldAt w table owners) (omega arith) p e .0
 
 -- Document 01's 13 by the storage: whether the block's page in CMF is needed, and how many pages are.
-module _ (x : Storage) (q : WellStore x) (l : ℕ) (b : l < x .state .lines) where
+module _ (x : Storage) (q : WellStore x) (l : ℕ) (b : l < x .state .registers .lines) where
   abbrev n : ℕ
   n = liveIn (x .state)
 
@@ -74,24 +74,24 @@ module _ (x : Storage) (q : WellStore x) (l : ℕ) (b : l < x .state .lines) whe
   lim = limits x (q .fits)
 
   -- CMF is the newest live frame
-  pub cmf-index : indexOf (x .state .frames) (x .state .omf) (x .state .cmf) ≡ n - 1
+  pub cmf-index : indexOf (x .state .registers .frames) (x .state .registers .omf) (x .state .registers .cmf) ≡ n - 1
   unfolding indexOf liveFrames
-  cmf-index = last ((x .state .cmf + x .state .frames - x .state .omf) % x .state .frames)
+  cmf-index = last ((x .state .registers .cmf + x .state .registers .frames - x .state .registers .omf) % x .state .registers .frames)
     where
       last : (m : ℕ) → m ≡ m + 1 - 1
       last m = omega arith
 
-  pub cmf-frame : frameAt (x .state .frames) (x .state .omf) (n - 1) ≡ x .state .cmf
-  cmf-frame = ap (frameAt (x .state .frames) (x .state .omf)) (sym cmf-index) ∙ frame-index (x .state .frames) (x .state .omf) (lim .fits .omf-below) (x .state .cmf) (lim .fits .cmf-below)
+  pub cmf-frame : frameAt (x .state .registers .frames) (x .state .registers .omf) (n - 1) ≡ x .state .registers .cmf
+  cmf-frame = ap (frameAt (x .state .registers .frames) (x .state .registers .omf)) (sym cmf-index) ∙ frame-index (x .state .registers .frames) (x .state .registers .omf) (lim .fits .omf-below) (x .state .registers .cmf) (lim .fits .cmf-below)
 
-  block : l / 8 < x .state .lines / 8
+  block : l / 8 < x .state .registers .lines / 8
   block = omega (arith, lim .good .lines-by)
 
   abbrev pub place : ℕ
-  place = placeAt w (frameAt (x .state .frames) (x .state .omf) (n - 1)) (l / 8)
+  place = placeAt w (frameAt (x .state .registers .frames) (x .state .registers .omf) (n - 1)) (l / 8)
 
   pub place-inside : place < placesOf w
-  place-inside = place-within w (frameAt (x .state .frames) (x .state .omf) (n - 1)) (l / 8) (frame-below (x .state .frames) (x .state .omf) (lim .fits .omf-below) (n - 1)) block
+  place-inside = place-within w (frameAt (x .state .registers .frames) (x .state .registers .omf) (n - 1)) (l / 8) (frame-below (x .state .registers .frames) (x .state .registers .omf) (lim .fits .omf-below) (n - 1)) block
 
   -- the block is needed in CMF just if its place is
   pub current-needed : seenOf store x .current (l / 8) ≡ neededAt w place
@@ -99,41 +99,41 @@ module _ (x : Storage) (q : WellStore x) (l : ℕ) (b : l < x .state .lines) whe
   current-needed =
       any-same 8 (λ i. isWritten (frameIn x 0 (l / 8 * 8 + i))) (λ i. effective w (n - 1) (l / 8 * 8 + i))
       (λ i c. sym (written-effective x 0 (l / 8 * 8 + i) (lim .live-some) (omega (arith, block, lim .good .lines-by))) ∙ ap (λ (k : ℕ). effective w k (l / 8 * 8 + i)) (none-off (n - 1)))
-      ∙ sym (needed-place w (frameAt (x .state .frames) (x .state .omf) (n - 1)) (l / 8) block ∙ ap (λ (k : ℕ). needs (effective w k) (l / 8)) (index-frame (x .state .frames) (x .state .omf) (lim .fits .omf-below) (n - 1) (omega (arith, lim .live-some, lim .live-most))))
+      ∙ sym (needed-place w (frameAt (x .state .registers .frames) (x .state .registers .omf) (n - 1)) (l / 8) block ∙ ap (λ (k : ℕ). needs (effective w k) (l / 8)) (index-frame (x .state .registers .frames) (x .state .registers .omf) (lim .fits .omf-below) (n - 1) (omega (arith, lim .live-some, lim .live-most))))
     where
       none-off : (m : ℕ) → m - 0 ≡ m
       none-off m = omega arith
 
-  asked-needed : needs (effective w (indexOf (x .state .frames) (x .state .omf) (x .state .cmf))) (l / 8) ≡ neededAt w place
+  asked-needed : needs (effective w (indexOf (x .state .registers .frames) (x .state .registers .omf) (x .state .registers .cmf))) (l / 8) ≡ neededAt w place
   asked-needed =
-      sym (needed-place w (frameAt (x .state .frames) (x .state .omf) (n - 1)) (l / 8) block ∙ ap (λ (f : ℕ). needs (effective w (indexOf (x .state .frames) (x .state .omf) f)) (l / 8)) cmf-frame)
+      sym (needed-place w (frameAt (x .state .registers .frames) (x .state .registers .omf) (n - 1)) (l / 8) block ∙ ap (λ (f : ℕ). needs (effective w (indexOf (x .state .registers .frames) (x .state .registers .omf) f)) (l / 8)) cmf-frame)
 
-  pub entry-place : entryPlace (x .state .lines) (x .state .cmf) l ≡ place
+  pub entry-place : entryPlace (x .state .registers .lines) (x .state .registers .cmf) l ≡ place
   unfolding placeAt
-  entry-place = ap (λ (f : ℕ). f * (x .state .lines / 8) + l / 8) (sym cmf-frame)
+  entry-place = ap (λ (f : ℕ). f * (x .state .registers .lines / 8) + l / 8) (sym cmf-frame)
 
   asks : Asks w l (n - 1)
   asks = record { lent = q .bits .lent; line-below = b; index-below = omega (arith, lim .live-some, lim .live-most) }
 
   abbrev pub after-bit : Written
-  after-bit = writtenOf (x .state .lines) (x .state .frames) (x .state .omf) (withWritten w (x .state .tag) l (n - 1)) (x .memory .history)
+  after-bit = writtenOf (x .state .registers .lines) (x .state .registers .frames) (x .state .registers .omf) (withWritten w (x .state .registers .tag) l (n - 1)) (x .memory .history)
 
   -- whether 13 is given
   abbrev none-free : Bool
-  none-free = not (seenOf store x .current (l / 8)) && leb (x .state .pages) (seenOf store x .pages)
+  none-free = not (seenOf store x .current (l / 8)) && leb (x .state .registers .pages) (seenOf store x .pages)
 
   -- The page chosen is one of the pages, the place's own if that is needed, and no other needed place's; with it every needed place is
   -- confirmed.
   pub record Chosen (p : ℕ) : Type 0 where
-    pub below : p < x .state .pages
+    pub below : p < x .state .registers .pages
     pub own : neededAt w place ≡ true → getD (x .memory .table) place 0 ≡ p
     pub unheld : neededAt w place ≡ false → heldAt w (x .memory .table) (x .memory .owners) p ≡ false
     pub apart : (y : ℕ) → y < placesOf w → neededAt w y ≡ true → y ≢ place → getD (x .memory .table) y 0 ≢ p
     pub confirmed :
-        Confirmed (neededAt after-bit) (placesOf w) (x .state .pages) (λ y. getD (set (x .memory .table) place p) y 0)
+        Confirmed (neededAt after-bit) (placesOf w) (x .state .registers .pages) (λ y. getD (set (x .memory .table) place p) y 0)
         (λ r. getD (set (x .memory .owners) p place) r 0)
     pub free : none-free ≡ false
-    pub fewer : (seenOf store x .current (l / 8) ≡ true) ⊎ (seenOf store x .pages < x .state .pages)
+    pub fewer : (seenOf store x .current (l / 8) ≡ true) ⊎ (seenOf store x .pages < x .state .registers .pages)
 
   abbrev held : ℕ → Bool
   held = heldAt w (x .memory .table) (x .memory .owners)
@@ -142,9 +142,9 @@ module _ (x : Storage) (q : WellStore x) (l : ℕ) (b : l < x .state .lines) whe
   counted : count (placesOf w) (neededAt w) ≡ seenOf store x .pages
   unfolding heldAt
   counted =
-      sym (held-count (neededAt w) (x .state .pages) (λ y. getD (x .memory .table) y 0) (λ r. getD (x .memory .owners) r 0) (placesOf w) (q .pages)) ∙ pages-counted x q
+      sym (held-count (neededAt w) (x .state .registers .pages) (λ y. getD (x .memory .table) y 0) (λ r. getD (x .memory .owners) r 0) (placesOf w) (q .pages)) ∙ pages-counted x q
 
-  owners-long : x .state .pages ≤ length (x .memory .owners)
+  owners-long : x .state .registers .pages ≤ length (x .memory .owners)
   unfolding elements
   owners-long = lent-long x (q .long) .owners
 
@@ -159,56 +159,56 @@ module _ (x : Storage) (q : WellStore x) (l : ℕ) (b : l < x .state .lines) whe
         below = c .0;
         own = λ _. refl;
         unheld = λ d. absurd (false≢true (sym d ∙ e));
-        apart = λ y h d ne same. ne (one-page (neededAt w) (placesOf w) (x .state .pages) (λ y. getD (x .memory .table) y 0) (λ r. getD (x .memory .owners) r 0) (q .pages) y place h d place-inside e same);
+        apart = λ y h d ne same. ne (one-page (neededAt w) (placesOf w) (x .state .registers .pages) (λ y. getD (x .memory .table) y 0) (λ r. getD (x .memory .owners) r 0) (q .pages) y place h d place-inside e same);
         confirmed =
-            subst (λ (t : List ℕ). Confirmed (neededAt after-bit) (placesOf w) (x .state .pages) (λ y. getD t y 0) (λ r. getD (set (x .memory .owners) (getD (x .memory .table) place 0) place) r 0)) (sym (set-getD (x .memory .table) place 0))
-            (subst (λ (o : List ℕ). Confirmed (neededAt after-bit) (placesOf w) (x .state .pages) (λ y. getD (x .memory .table) y 0) (λ r. getD o r 0))
+            subst (λ (t : List ℕ). Confirmed (neededAt after-bit) (placesOf w) (x .state .registers .pages) (λ y. getD t y 0) (λ r. getD (set (x .memory .owners) (getD (x .memory .table) place 0) place) r 0)) (sym (set-getD (x .memory .table) place 0))
+            (subst (λ (o : List ℕ). Confirmed (neededAt after-bit) (placesOf w) (x .state .registers .pages) (λ y. getD (x .memory .table) y 0) (λ r. getD o r 0))
             (sym (ap (set (x .memory .owners) (getD (x .memory .table) place 0)) (sym (c .1)) ∙ set-getD (x .memory .owners) (getD (x .memory .table) place 0) 0))
-            (set-confirmed w (x .state .tag) l (n - 1) asks (q .bits .tag-below) (q .bits .open-tag) (x .state .pages) (λ y. getD (x .memory .table) y 0) (λ r. getD (x .memory .owners) r 0) e (q .pages)));
-        free = ap (λ (t : Bool). not t && leb (x .state .pages) (seenOf store x .pages)) (current-needed ∙ e);
+            (set-confirmed w (x .state .registers .tag) l (n - 1) asks (q .bits .tag-below) (q .bits .open-tag) (x .state .registers .pages) (λ y. getD (x .memory .table) y 0) (λ r. getD (x .memory .owners) r 0) e (q .pages)));
+        free = ap (λ (t : Bool). not t && leb (x .state .registers .pages) (seenOf store x .pages)) (current-needed ∙ e);
         fewer = inl (current-needed ∙ e);
       }
 
-  chosen-free : neededAt w place ≡ false → (p : ℕ) → p < x .state .pages → held p ≡ false → Chosen p
+  chosen-free : neededAt w place ≡ false → (p : ℕ) → p < x .state .registers .pages → held p ≡ false → Chosen p
   unfolding heldAt
   chosen-free e p small empty =
-      let few : seenOf store x .pages < x .state .pages =
-      subst (λ (m : ℕ). m < x .state .pages) counted
-      (some-free (neededAt w) (x .state .pages) (λ y. getD (x .memory .table) y 0) (λ r. getD (x .memory .owners) r 0) (placesOf w) (q .pages) p small empty)
+      let few : seenOf store x .pages < x .state .registers .pages =
+      subst (λ (m : ℕ). m < x .state .registers .pages) counted
+      (some-free (neededAt w) (x .state .registers .pages) (λ y. getD (x .memory .table) y 0) (λ r. getD (x .memory .owners) r 0) (placesOf w) (q .pages) p small empty)
       in
       record {
         below = small;
         own = λ d. absurd (false≢true (sym e ∙ d));
         unheld = λ _. empty;
-        apart = λ y h d ne. free-of (neededAt w) (placesOf w) (x .state .pages) (λ y. getD (x .memory .table) y 0) (λ r. getD (x .memory .owners) r 0) (q .pages) p empty y h d;
+        apart = λ y h d ne. free-of (neededAt w) (placesOf w) (x .state .registers .pages) (λ y. getD (x .memory .table) y 0) (λ r. getD (x .memory .owners) r 0) (q .pages) p empty y h d;
         confirmed =
-            claimed-confirmed w (x .state .tag) l (n - 1) asks (q .bits .tag-below) (q .bits .open-tag) (x .state .pages) (x .memory .table) (x .memory .owners) p asks-table
+            claimed-confirmed w (x .state .registers .tag) l (n - 1) asks (q .bits .tag-below) (q .bits .open-tag) (x .state .registers .pages) (x .memory .table) (x .memory .owners) p asks-table
             (omega (arith, owners-long)) small empty (q .pages);
-        free = ap₂ (λ (s t : Bool). not s && t) (current-needed ∙ e) (lt-leb (x .state .pages) (seenOf store x .pages) few);
+        free = ap₂ (λ (s t : Bool). not s && t) (current-needed ∙ e) (lt-leb (x .state .registers .pages) (seenOf store x .pages) few);
         fewer = inr few;
       }
 
   abbrev page-choice : (hint : ℕ) → Found
-  page-choice hint = pageFor w (x .state .pages) hint (x .memory .table) (x .memory .owners) (x .state .cmf) l
+  page-choice hint = pageFor w (x .state .registers .pages) hint (x .memory .table) (x .memory .owners) (x .state .registers .cmf) l
 
   -- what is chosen where the place is needed, and where it is not
   choice-own : (hint : ℕ) → neededAt w place ≡ true → page-choice hint ≡ At (getD (x .memory .table) place 0)
-  unfolding pageFor
+  unfolding pageFor namedPage
   choice-own hint e =
-      ap (λ (t : Bool). cond t (named (getD (x .memory .table) (entryPlace (x .state .lines) (x .state .cmf) l) 0)) (given (x .state .pages) (min hint (x .state .pages)) held)) (asked-needed ∙ e)
+      ap (λ (t : Bool). cond t (named (getD (x .memory .table) (entryPlace (x .state .registers .lines) (x .state .registers .cmf) l) 0)) (given (x .state .registers .pages) (min hint (x .state .registers .pages)) held)) (asked-needed ∙ e)
       ∙ (ap (λ (y : ℕ). named (getD (x .memory .table) y 0)) entry-place
-      ∙ ap (λ (t : Bool). cond t (At (getD (x .memory .table) place 0)) Nothing) (lt-ltb (getD (x .memory .table) place 0) (x .state .pages) (q .pages place place-inside e .0)))
+      ∙ ap (λ (t : Bool). cond t (At (getD (x .memory .table) place 0)) Nothing) (lt-ltb (getD (x .memory .table) place 0) (x .state .registers .pages) (q .pages place place-inside e .0)))
     where
       named : ℕ → Found
-      named p = cond (ltb p (x .state .pages)) (At p) Nothing
+      named p = cond (ltb p (x .state .registers .pages)) (At p) Nothing
 
-  choice-free : (hint : ℕ) → neededAt w place ≡ false → page-choice hint ≡ given (x .state .pages) (min hint (x .state .pages)) held
-  unfolding pageFor
+  choice-free : (hint : ℕ) → neededAt w place ≡ false → page-choice hint ≡ given (x .state .registers .pages) (min hint (x .state .registers .pages)) held
+  unfolding pageFor namedPage
   choice-free hint e =
-      ap (λ (t : Bool). cond t (cond (ltb entry (x .state .pages)) (At entry) Nothing) (given (x .state .pages) (min hint (x .state .pages)) held)) (asked-needed ∙ e)
+      ap (λ (t : Bool). cond t (cond (ltb entry (x .state .registers .pages)) (At entry) Nothing) (given (x .state .registers .pages) (min hint (x .state .registers .pages)) held)) (asked-needed ∙ e)
     where
       entry : ℕ
-      entry = getD (x .memory .table) (entryPlace (x .state .lines) (x .state .cmf) l) 0
+      entry = getD (x .memory .table) (entryPlace (x .state .registers .lines) (x .state .registers .cmf) l) 0
 
   pub chosen : (hint p : ℕ) → page-choice hint ≡ At p → Chosen p
   chosen hint p e = go (neededAt w place) refl
@@ -216,7 +216,7 @@ module _ (x : Storage) (q : WellStore x) (l : ℕ) (b : l < x .state .lines) whe
       go : (t : Bool) → neededAt w place ≡ t → Chosen p
       go true d = subst Chosen (at-same (sym (choice-own hint d) ∙ e)) (chosen-own d)
       go false d =
-          let f = given-free (x .state .pages) (min hint (x .state .pages)) held (omega arith) p (sym (choice-free hint d) ∙ e) in
+          let f = given-free (x .state .registers .pages) (min hint (x .state .registers .pages)) held (omega arith) p (sym (choice-free hint d) ∙ e) in
           chosen-free d p (f .0) (f .1)
 
   pub none-chosen : (hint : ℕ) → page-choice hint ≡ Nothing → none-free ≡ true
@@ -226,8 +226,8 @@ module _ (x : Storage) (q : WellStore x) (l : ℕ) (b : l < x .state .lines) whe
       go : (t : Bool) → neededAt w place ≡ t → none-free ≡ true
       go true d = absurd (at-some (sym (choice-own hint d) ∙ e))
       go false d =
-          let all = given-none (x .state .pages) (min hint (x .state .pages)) held (omega arith) (sym (choice-free hint d) ∙ e) in
-          let full : seenOf store x .pages ≡ x .state .pages =
-          sym counted ∙ all-held (neededAt w) (x .state .pages) (λ y. getD (x .memory .table) y 0) (λ r. getD (x .memory .owners) r 0) (placesOf w) (q .pages) all
+          let all = given-none (x .state .registers .pages) (min hint (x .state .registers .pages)) held (omega arith) (sym (choice-free hint d) ∙ e) in
+          let full : seenOf store x .pages ≡ x .state .registers .pages =
+          sym counted ∙ all-held (neededAt w) (x .state .registers .pages) (λ y. getD (x .memory .table) y 0) (λ r. getD (x .memory .owners) r 0) (placesOf w) (q .pages) all
           in
-          ap₂ (λ (s t : Bool). not s && t) (current-needed ∙ d) (le-leb (x .state .pages) (seenOf store x .pages) (omega (arith, full)))
+          ap₂ (λ (s t : Bool). not s && t) (current-needed ∙ d) (le-leb (x .state .registers .pages) (seenOf store x .pages) (omega (arith, full)))

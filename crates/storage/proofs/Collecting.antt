@@ -36,15 +36,16 @@ use Rattle.written.proofs.Finding.{version-back}
 use Rattle.pages.specs.Lines.{pageLine, archiveLine}
 use Rattle.pages.specs.Table.{placeAt}
 use Rattle.pages.proofs.Keeping.{advanced-confirmed}
-use Rattle.cache.specs.Steps.{archiveFrame, frameAfter, collected}
+use Rattle.cache.specs.Steps.{archiveFrame, frameAfter, framesAfter, withOrigins, collected}
 use Rattle.cache.specs.Shown.{shown}
 use Rattle.cache.proofs.Frames.{collected-sized, collected-shown, collected-all}
 use Rattle.cache.specs.declared.Cache.{Cache}
 use Rattle.versions.specs.Newest.{pageOf, spotOf, contentOf}
 use Rattle.versions.specs.Steps.{folded, AsksFold}
+use Rattle.storage.specs.declared.Registers.{Registers}
 use Rattle.storage.specs.declared.State.{State}
-use Rattle.storage.specs.Storage.{Storage, storageOf, memoryOf, settingsIn, lengthsIn, pastIn, Recent, Coherent, liveIn, writtenIn, indexBack, frameIn, archiveIn, versionAt, latestIn, frameNumber, newestFrame, WellStore, store}
-use Rattle.storage.specs.Steps.{stateWith, advancedState, AdvancedTo}
+use Rattle.storage.specs.Storage.{Storage, stateOf, storageOf, memoryOf, settingsIn, lengthsIn, pastIn, Recent, Coherent, liveIn, writtenIn, indexBack, frameIn, archiveIn, versionAt, latestIn, frameNumber, newestFrame, WellStore, store}
+use Rattle.storage.specs.Steps.{advancedRegisters, advancedState, AdvancedTo}
 use Rattle.storage.specs.Admit.{admitted}
 use Rattle.storage.proofs.Limits.{Limits, limits, lent-long}
 use Rattle.storage.proofs.Admitting.{Long, room-table}
@@ -77,21 +78,21 @@ module _ (x : Storage) (k : ℕ) where
   abbrev pub collected-to : Storage
   collected-to =
       storageOf (advancedState (x .state) k)
-      (folded (writtenIn x) (x .state .pages) k (x .memory .pool) (x .memory .table) (x .state .lines) (x .memory .archive)) (x .memory .pool)
-      (cleared (x .state .lines) (x .state .frames) (x .state .omf) k (x .memory .groups)) (x .memory .table) (x .memory .owners)
+      (folded (writtenIn x) (x .state .registers .pages) k (x .memory .pool) (x .memory .table) (x .state .registers .lines) (x .memory .archive)) (x .memory .pool)
+      (cleared (x .state .registers .lines) (x .state .registers .frames) (x .state .registers .omf) k (x .memory .groups)) (x .memory .table) (x .memory .owners)
       (lowered k (x .memory .history))
 
   module _ (long : Long (elements (settingsIn (x .state))) (lengthsIn (x .memory))) where
-    lines-in : Folded (writtenIn x) (x .state .pages) k (x .memory .pool) (x .memory .table) (x .memory .archive) (x .state .lines) (collected-to .memory .archive)
+    lines-in : Folded (writtenIn x) (x .state .registers .pages) k (x .memory .pool) (x .memory .table) (x .memory .archive) (x .state .registers .lines) (collected-to .memory .archive)
     unfolding elements
-    lines-in = lines-folded (writtenIn x) (x .state .pages) k (x .memory .pool) (x .memory .table) (x .memory .archive) (x .state .lines) (long .pool) (long .archive)
+    lines-in = lines-folded (writtenIn x) (x .state .registers .pages) k (x .memory .pool) (x .memory .table) (x .memory .archive) (x .state .registers .lines) (long .pool) (long .archive)
 
     lengths-kept : lengthsIn (collected-to .memory) ≡ lengthsIn (x .memory)
     lengths-kept = λ i.
         record {
           archive = lines-in .long i;
           pool = length (x .memory .pool);
-          groups = cleared-long (x .state .lines) (x .state .frames) (x .state .omf) k (x .memory .groups) i;
+          groups = cleared-long (x .state .registers .lines) (x .state .registers .frames) (x .state .registers .omf) k (x .memory .groups) i;
           table = length (x .memory .table);
           owners = length (x .memory .owners);
           history = lowered-long k (x .memory .history) i;
@@ -100,9 +101,9 @@ module _ (x : Storage) (k : ℕ) where
     past-kept : pastIn (elements (settingsIn (x .state))) (collected-to .memory) ≡ pastIn (elements (settingsIn (x .state))) (x .memory)
     unfolding elements
     past-kept = λ i.
-        memoryOf (lines-in .past (16 * x .state .lines) (omega arith) i) (drop (128 * x .state .pages) (x .memory .pool))
-        (cleared-past (x .state .lines) (x .state .frames) (x .state .omf) k (x .memory .groups) i) (drop (x .state .frames * (x .state .lines / 8)) (x .memory .table))
-        (drop (x .state .pages) (x .memory .owners)) (lowered-past k (x .memory .history) i)
+        memoryOf (lines-in .past (16 * x .state .registers .lines) (omega arith) i) (drop (128 * x .state .registers .pages) (x .memory .pool))
+        (cleared-past (x .state .registers .lines) (x .state .registers .frames) (x .state .registers .omf) k (x .memory .groups) i) (drop (x .state .registers .frames * (x .state .registers .lines / 8)) (x .memory .table))
+        (drop (x .state .registers .pages) (x .memory .owners)) (lowered-past k (x .memory .history) i)
 
 module _ (x : Storage) (q : WellStore x) (k : ℕ) (some-k : 0 < k) (low : k ≤ liveIn (x .state) - 1) where
   abbrev n : ℕ
@@ -117,7 +118,7 @@ module _ (x : Storage) (q : WellStore x) (k : ℕ) (some-k : 0 < k) (low : k ≤
   abbrev lim : Limits x
   lim = limits x (q .fits)
 
-  below : k < x .state .frames
+  below : k < x .state .registers .frames
   below = omega (arith, lim .live-most)
 
   all : n ≡ kept + k
@@ -125,7 +126,7 @@ module _ (x : Storage) (q : WellStore x) (k : ℕ) (some-k : 0 < k) (low : k ≤
 
   live : liveIn (new .state) ≡ kept
   unfolding advancedState
-  live = live-advance (x .state .frames) (x .state .cmf) (x .state .omf) (lim .fits .cmf-below) (lim .fits .omf-below) k low
+  live = live-advance (x .state .registers .frames) (x .state .registers .cmf) (x .state .registers .omf) (lim .fits .cmf-below) (lim .fits .omf-below) k low
 
   long : Long (elements (settingsIn (x .state))) (lengthsIn (x .memory))
   long = lent-long x (q .long)
@@ -137,21 +138,21 @@ module _ (x : Storage) (q : WellStore x) (k : ℕ) (some-k : 0 < k) (low : k ≤
       same : (n : ℕ) → k ≤ n - 1 → j < n - k → k + (n - k - 1 - j) ≡ n - 1 - j
       same n low h = omega arith
 
-  frame-on : (j : ℕ) → j < kept → frameAt (x .state .frames) (new .state .omf) (indexBack (new .state) j) ≡ frameAt (x .state .frames) (x .state .omf) (indexBack (x .state) j)
+  frame-on : (j : ℕ) → j < kept → frameAt (x .state .registers .frames) (new .state .registers .omf) (indexBack (new .state) j) ≡ frameAt (x .state .registers .frames) (x .state .registers .omf) (indexBack (x .state) j)
   unfolding frameAt advancedState
   frame-on j h =
-      mod-add-mod (x .state .omf + k) (x .state .frames) (indexBack (new .state) j)
-      ∙ ap (λ (m : ℕ). m % x .state .frames) (add-assoc (x .state .omf) k (indexBack (new .state) j) ∙ ap (λ (m : ℕ). x .state .omf + m) (index j h))
+      mod-add-mod (x .state .registers .omf + k) (x .state .registers .frames) (indexBack (new .state) j)
+      ∙ ap (λ (m : ℕ). m % x .state .registers .frames) (add-assoc (x .state .registers .omf) k (indexBack (new .state) j) ∙ ap (λ (m : ℕ). x .state .registers .omf + m) (index j h))
 
-  collected-alike : (j l : ℕ) → j < kept → l < x .state .lines → AlikeAt new x (indexBack (new .state) j) (indexBack (x .state) j) l
+  collected-alike : (j l : ℕ) → j < kept → l < x .state .registers .lines → AlikeAt new x (indexBack (new .state) j) (indexBack (x .state) j) l
   unfolding versionAt advancedState placeAt frameAt pageOf
   collected-alike j l h b =
       record {
         bit =
             advanced-effective (writtenIn x) (q .bits .lent) k below (indexBack (new .state) j) l (omega (arith, index j h, lim .live-most)) b
-            ∙ (ap (λ (i : ℕ). ltb i (x .state .frames) && effective (writtenIn x) i l) (index j h)
-            ∙ ap (λ (t : Bool). t && effective (writtenIn x) (indexBack (x .state) j) l) (lt-ltb (indexBack (x .state) j) (x .state .frames) (omega (arith, lim .live-most))));
-        version = λ _. ap (λ (f : ℕ). pageLine (x .memory .pool) (getD (x .memory .table) (f * (x .state .lines / 8) + l / 8) 0) (l % 8)) (frame-on j h);
+            ∙ (ap (λ (i : ℕ). ltb i (x .state .registers .frames) && effective (writtenIn x) i l) (index j h)
+            ∙ ap (λ (t : Bool). t && effective (writtenIn x) (indexBack (x .state) j) l) (lt-ltb (indexBack (x .state) j) (x .state .registers .frames) (omega (arith, lim .live-most))));
+        version = λ _. ap (λ (f : ℕ). pageLine (x .memory .pool) (getD (x .memory .table) (f * (x .state .registers .lines / 8) + l / 8) 0) (l % 8)) (frame-on j h);
       }
 
   stays : (j l : ℕ) → j < kept → frameIn new j l ≡ frameIn x j l
@@ -167,7 +168,7 @@ module _ (x : Storage) (q : WellStore x) (k : ℕ) (some-k : 0 < k) (low : k ≤
       go (no h) = frame-live new j l (omega (arith, live)) ∙ sym (ap (λ (t : Bool). cond t (frameIn x j l) none) (le-ltb j kept (omega arith)))
 
   -- ---- archive
-  module _ (l : ℕ) (b : l < x .state .lines) where
+  module _ (l : ℕ) (b : l < x .state .registers .lines) where
     abbrev row : ℕ → Bool
     row i = effective (writtenIn x) i l
 
@@ -183,9 +184,9 @@ module _ (x : Storage) (q : WellStore x) (k : ℕ) (some-k : 0 < k) (low : k ≤
     unfolding archiveIn newestFrom advancedState
     archive-folded =
         let start : k - 1 + 1 ≡ k = omega arith in
-        ap (λ (t : Bool). cond t (archiveLine (new .memory .archive) l) zeros) (lt-ltb l (x .state .lines) b)
+        ap (λ (t : Bool). cond t (archiveLine (new .memory .archive) l) zeros) (lt-ltb l (x .state .registers .lines) b)
         ∙ (lines-in x k long .line l b
-        ∙ (ap (λ (m : ℕ). contentOf (x .memory .archive) (x .memory .pool) l (spotOf (x .state .lines) (x .state .frames) (x .state .omf) (x .state .pages) (x .memory .table) l (greatest m row))) start
+        ∙ (ap (λ (m : ℕ). contentOf (x .memory .archive) (x .memory .pool) l (spotOf (x .state .registers .lines) (x .state .registers .frames) (x .state .registers .omf) (x .state .registers .pages) (x .memory .table) l (greatest m row))) start
         ∙ (version-content x (well-findable x q) l b (greatest k row) (λ i e. let g = greatest-found k row i e in (omega (arith, g .below), g .passes))
         ∙ (sym (version-back k row (λ i. versionAt x i l) (archiveIn x l))
         ∙ sym (version-same k (λ j. frameIn x (kept + j) l) (λ j. cond (row (k - 1 - j)) (some (versionAt x (k - 1 - j) l)) none) (archiveIn x l) oldest)))))
@@ -196,9 +197,9 @@ module _ (x : Storage) (q : WellStore x) (k : ℕ) (some-k : 0 < k) (low : k ≤
 
   collected-archive : (l : ℕ) → archiveIn new l ≡ omrv (figureOf store x) k l
   unfolding omrv figureOf figureStep advancedState
-  collected-archive l = go (decLt l (x .state .lines))
+  collected-archive l = go (decLt l (x .state .registers .lines))
     where
-      go : Dec (l < x .state .lines) → archiveIn new l ≡ versionIn k (λ j. frameIn x (kept + j) l) (archiveIn x l)
+      go : Dec (l < x .state .registers .lines) → archiveIn new l ≡ versionIn k (λ j. frameIn x (kept + j) l) (archiveIn x l)
       go (yes b) = archive-folded l b
       go (no b) = archive-past new l (omega arith) ∙ sym (next-well .archive-lines l (omega arith))
 
@@ -213,28 +214,28 @@ module _ (x : Storage) (q : WellStore x) (k : ℕ) (some-k : 0 < k) (low : k ≤
       ap₂ (λ (m : ℕ) (v : Line). versionIn m (λ j. frameIn new j l) v) live (collected-archive l)
       ∙ split-version kept k n (λ j. frameIn x j l) (λ j. frameIn new j l) (archiveIn x l) all (λ j h. stays j l h)
 
-  archive-stays : frameAfter (x .state .omf) (x .state .frames) k archiveFrame ≡ archiveFrame
+  archive-stays : frameAfter (x .state .registers .omf) (x .state .registers .frames) k archiveFrame ≡ archiveFrame
   unfolding frameAfter
-  archive-stays = ap (λ (t : Bool). cond t archiveFrame archiveFrame) (below-archive (x .state .frames) (x .state .omf) (lim .good .frames-to) (lim .fits .omf-below) k)
+  archive-stays = ap (λ (t : Bool). cond t archiveFrame archiveFrame) (below-archive (x .state .registers .frames) (x .state .registers .omf) (lim .good .frames-to) (lim .fits .omf-below) k)
 
-  frame-collected : (o : Origin) → Within n o → frameAfter (x .state .omf) (x .state .frames) k (frameNumber (x .state) o) ≡ frameNumber (new .state) (first kept o)
+  frame-collected : (o : Origin) → Within n o → frameAfter (x .state .registers .omf) (x .state .registers .frames) k (frameNumber (x .state) o) ≡ frameNumber (new .state) (first kept o)
   unfolding frameAfter frameNumber dropped advancedState
   frame-collected from-cache h = archive-stays
   frame-collected (from-frame j) h =
-      ap (λ (t : Bool). cond t archiveFrame (frameAt (x .state .frames) (x .state .omf) (n - 1 - j)))
-      (below-frame (x .state .frames) (x .state .omf) (lim .good .frames-to) (lim .fits .omf-below) k (n - 1 - j) (omega (arith, lim .live-most)))
+      ap (λ (t : Bool). cond t archiveFrame (frameAt (x .state .registers .frames) (x .state .registers .omf) (n - 1 - j)))
+      (below-frame (x .state .registers .frames) (x .state .registers .omf) (lim .good .frames-to) (lim .fits .omf-below) k (n - 1 - j) (omega (arith, lim .live-most)))
       ∙ go (decLt j kept)
     where
-      go : Dec (j < kept) → cond (ltb (n - 1 - j) k) archiveFrame (frameAt (x .state .frames) (x .state .omf) (n - 1 - j)) ≡ frameNumber (new .state) (cond (ltb j kept) (from-frame j) from-archive)
+      go : Dec (j < kept) → cond (ltb (n - 1 - j) k) archiveFrame (frameAt (x .state .registers .frames) (x .state .registers .omf) (n - 1 - j)) ≡ frameNumber (new .state) (cond (ltb j kept) (from-frame j) from-archive)
       go (yes b) =
-          ap (λ (t : Bool). cond t archiveFrame (frameAt (x .state .frames) (x .state .omf) (n - 1 - j))) (le-ltb (n - 1 - j) k (omega arith))
+          ap (λ (t : Bool). cond t archiveFrame (frameAt (x .state .registers .frames) (x .state .registers .omf) (n - 1 - j))) (le-ltb (n - 1 - j) k (omega arith))
           ∙ (sym (frame-on j b) ∙ sym (ap (λ (t : Bool). frameNumber (new .state) (cond t (from-frame j) from-archive)) (lt-ltb j kept b)))
       go (no b) =
-          ap (λ (t : Bool). cond t archiveFrame (frameAt (x .state .frames) (x .state .omf) (n - 1 - j))) (lt-ltb (n - 1 - j) k (omega arith))
+          ap (λ (t : Bool). cond t archiveFrame (frameAt (x .state .registers .frames) (x .state .registers .omf) (n - 1 - j))) (lt-ltb (n - 1 - j) k (omega arith))
           ∙ sym (ap (λ (t : Bool). frameNumber (new .state) (cond t (from-frame j) from-archive)) (le-ltb j kept (omega arith)))
   frame-collected from-archive h = archive-stays
 
-  collected-newest : (l : ℕ) → frameAfter (x .state .omf) (x .state .frames) k (newestFrame x l) ≡ newestFrame new l
+  collected-newest : (l : ℕ) → frameAfter (x .state .registers .omf) (x .state .registers .frames) k (newestFrame x l) ≡ newestFrame new l
   unfolding newestFrame
   collected-newest l =
       frame-collected (foundIn n (λ j. isWritten (frameIn x j l))) (found-within n (λ j. isWritten (frameIn x j l)))
@@ -244,22 +245,22 @@ module _ (x : Storage) (q : WellStore x) (k : ℕ) (some-k : 0 < k) (low : k ≤
   collected-coherent : Coherent new
   unfolding advancedState
   collected-coherent =
-      collected-all (x .state .cache) (q .sized) (x .state .omf) (x .state .frames) k (Recent x) (Recent new) (q .coherent)
-      (λ l g b c. (c .0 ∙ sym (collected-latest l), ap (frameAfter (x .state .omf) (x .state .frames) k) (c .1) ∙ collected-newest l))
+      collected-all (x .state .cache) (q .sized) (x .state .registers .omf) (x .state .registers .frames) k (Recent x) (Recent new) (q .coherent)
+      (λ l g b c. (c .0 ∙ sym (collected-latest l), ap (frameAfter (x .state .registers .omf) (x .state .registers .frames) k) (c .1) ∙ collected-newest l))
 
   collected-cache : shown (new .state .cache) ≡ shown (x .state .cache)
   unfolding advancedState
-  collected-cache = collected-shown (x .state .cache) (q .sized) (x .state .omf) (x .state .frames) k
+  collected-cache = collected-shown (x .state .cache) (q .sized) (x .state .registers .omf) (x .state .registers .frames) k
 
   collected-store : WellStore new
   unfolding advancedState frameAt
   collected-store =
       record {
-        fits = facts-fit (settingsIn (x .state)) (x .state .cmf) _ (record { limits = lim .fits .limits; cmf-below = lim .fits .cmf-below; omf-below = mod-lt _ (omega (arith, below)) });
+        fits = facts-fit (settingsIn (x .state)) (x .state .registers .cmf) _ (record { limits = lim .fits .limits; cmf-below = lim .fits .cmf-below; omf-below = mod-lt _ (omega (arith, below)) });
         long = subst (λ (p : Pieces). enough (settingsIn (x .state)) p ≡ true) (sym (lengths-kept x k long)) (q .long);
-        bits = subst (λ (m : ℕ). WellBits (writtenIn new) (x .state .tag) m) (sym live) (advanced-well (writtenIn x) (q .bits .lent) k below (x .state .tag) n (q .bits));
-        pages = advanced-confirmed (writtenIn x) (q .bits .lent) k below (x .state .pages) (λ y. getD (x .memory .table) y 0) (λ p. getD (x .memory .owners) p 0) (q .pages);
-        sized = collected-sized (x .state .cache) (q .sized) (x .state .omf) (x .state .frames) k;
+        bits = subst (λ (m : ℕ). WellBits (writtenIn new) (x .state .registers .tag) m) (sym live) (advanced-well (writtenIn x) (q .bits .lent) k below (x .state .registers .tag) n (q .bits));
+        pages = advanced-confirmed (writtenIn x) (q .bits .lent) k below (x .state .registers .pages) (λ y. getD (x .memory .table) y 0) (λ p. getD (x .memory .owners) p 0) (q .pages);
+        sized = collected-sized (x .state .cache) (q .sized) (x .state .registers .omf) (x .state .registers .frames) k;
         version-line = step-versions new _ _ collected-figure next-well;
         archive-line = step-archive new _ _ collected-figure next-well;
         entries = subst (WellCache (settingsIn (x .state))) (sym collected-cache) (q .entries);
@@ -288,20 +289,22 @@ module _ (x : Storage) (k a : ℕ) (told : a ≡ admittedIn x (markedRefusal (li
   promised : a ≡ 0 → Promise store (ADVANCE k) x (outcome 0) (collected-to x k)
   unfolding refusal stateRefusal factsOf admitted noPage target
   promised z =
-      let g = frames-room (settingsIn (x .state)) (x .state .cmf) (x .state .omf) (lengthsIn (x .memory)) a k told z in
+      let g = frames-room (settingsIn (x .state)) (x .state .registers .cmf) (x .state .registers .omf) (lengthsIn (x .memory)) a k told z in
       let-through x (ADVANCE k) a told z refl (λ q. advanced-followed x q k (g .k-some) (g .k-low)) (lengths-kept x k (g .room .long)) (past-kept x k (g .room .long))
 
-  -- in the form in which the code has the lists and the state
+  -- in the form in which the code has the lists, the registers and the cache's frames
   pub advance-collects : a ≡ 0 → (archive groups history : List ℕ) → archive ≡ collected-to x k .memory .archive
       → groups ≡ collected-to x k .memory .groups → history ≡ collected-to x k .memory .history
-      → (held : Cache) (s : State) → held ≡ collected (x .state .cache) (x .state .omf) (x .state .frames) k
-      → s ≡ stateWith (x .state) (x .state .cmf) ((x .state .omf + k) % x .state .frames) (x .state .tag) (x .state .hint) held
-      → Promise store (ADVANCE k) x (outcome 0) (storageOf s archive (x .memory .pool) groups (x .memory .table) (x .memory .owners) history)
-      × AdvancedTo (x .state) (x .memory .archive) (x .memory .pool) (x .memory .groups) (x .memory .table) (x .memory .history) k s archive groups history
-  unfolding advancedState
-  advance-collects z archive groups history ea eg eh held s cached e =
-      let same : s ≡ advancedState (x .state) k =
-      e ∙ ap (λ (c : Cache). stateWith (x .state) (x .state .cmf) ((x .state .omf + k) % x .state .frames) (x .state .tag) (x .state .hint) c) cached
+      → (t : Registers) (origins : List ℕ) → t ≡ advancedRegisters (x .state .registers) k
+      → origins ≡ framesAfter (x .state .registers .omf) (x .state .registers .frames) k (x .state .cache .frames)
+      → Promise store (ADVANCE k) x (outcome 0)
+      (storageOf (stateOf t (withOrigins (x .state .cache) origins)) archive (x .memory .pool) groups (x .memory .table) (x .memory .owners) history)
+      × AdvancedTo (x .state) (x .memory .archive) (x .memory .pool) (x .memory .groups) (x .memory .table) (x .memory .history) k
+      (stateOf t (withOrigins (x .state .cache) origins)) archive groups history
+  unfolding advancedState collected
+  advance-collects z archive groups history ea eg eh t origins e frames =
+      let same : stateOf t (withOrigins (x .state .cache) origins) ≡ advancedState (x .state) k =
+      λ i. stateOf (e i) (withOrigins (x .state .cache) (frames i))
       in (
         subst (Promise store (ADVANCE k) x (outcome 0))
             (λ i. storageOf (sym same i) (sym ea i) (x .memory .pool) (sym eg i) (x .memory .table) (x .memory .owners) (sym eh i)) (promised z),

@@ -35,12 +35,12 @@ pages-alike lines (suc n) v w h =
     (count-same (lines / 8) _ _ (λ b c. any-same 8 _ _ (λ i d. h 0 (b * 8 + i) (omega arith) (omega arith))))
     (pages-alike lines n (λ j. v (suc j)) (λ j. w (suc j)) (λ j l b c. h (suc j) l (omega arith) c))
 
-pub written-effective : (x : Storage) (j l : ℕ) → j < liveIn (x .state) → l < x .state .lines
+pub written-effective : (x : Storage) (j l : ℕ) → j < liveIn (x .state) → l < x .state .registers .lines
     → effective (writtenIn x) (liveIn (x .state) - 1 - j) l ≡ isWritten (frameIn x j l)
 unfolding frameIn isWritten
 written-effective x j l b c =
     sym (ap₂ (λ (s t : Bool). isWritten (cond (s && (t && effective (writtenIn x) (liveIn (x .state) - 1 - j) l)) (some (versionAt x (liveIn (x .state) - 1 - j) l)) none))
-    (lt-ltb j (liveIn (x .state)) b) (lt-ltb l (x .state .lines) c)
+    (lt-ltb j (liveIn (x .state)) b) (lt-ltb l (x .state .registers .lines) c)
     ∙ set (effective (writtenIn x) (liveIn (x .state) - 1 - j) l) (versionAt x (liveIn (x .state) - 1 - j) l))
   where
     set : (e : Bool) (v : Line) → isWritten (cond e (some v) none) ≡ e
@@ -48,19 +48,19 @@ written-effective x j l b c =
     set false v = refl
 
 pub pages-counted : (x : Storage) → WellStore x
-    → count (x .state .pages) (heldAt (writtenIn x) (x .memory .table) (x .memory .owners)) ≡ seenOf store x .pages
+    → count (x .state .registers .pages) (heldAt (writtenIn x) (x .memory .table) (x .memory .owners)) ≡ seenOf store x .pages
 unfolding heldAt seenOf figureSeen figureOf
 pages-counted x q =
-    held-count (neededAt (writtenIn x)) (x .state .pages) (λ y. getD (x .memory .table) y 0) (λ p. getD (x .memory .owners) p 0) (placesOf (writtenIn x)) (q .pages)
-    ∙ (needed-pages (writtenIn x) (x .state .tag) (liveIn (x .state)) (q .bits) (limits x (q .fits) .live-most)
-    ∙ pages-alike (x .state .lines) (liveIn (x .state)) _ _ (written-effective x))
+    held-count (neededAt (writtenIn x)) (x .state .registers .pages) (λ y. getD (x .memory .table) y 0) (λ p. getD (x .memory .owners) p 0) (placesOf (writtenIn x)) (q .pages)
+    ∙ (needed-pages (writtenIn x) (x .state .registers .tag) (liveIn (x .state)) (q .bits) (limits x (q .fits) .live-most)
+    ∙ pages-alike (x .state .registers .lines) (liveIn (x .state)) _ _ (written-effective x))
 
 module _ (x : Storage) (a : ℕ) (told : a ≡ admittedIn x 0) where
   pub counts-refused : a ≢ 0 → Promise store COUNTS x (counting a 0 0) x
   unfolding refusal stateRefusal factsOf admitted refused noPage
   counts-refused z = turned-down x COUNTS a told z
 
-  pub counts-told : a ≡ 0 → (live pages : ℕ) → live ≡ liveIn (x .state) → pages ≡ count (x .state .pages) (heldAt (writtenIn x) (x .memory .table) (x .memory .owners))
+  pub counts-told : a ≡ 0 → (live pages : ℕ) → live ≡ liveIn (x .state) → pages ≡ count (x .state .registers .pages) (heldAt (writtenIn x) (x .memory .table) (x .memory .owners))
       → Promise store COUNTS x (counting 0 live pages) x
   unfolding refusal stateRefusal factsOf admitted noPage accepted figureStep cmfStep omfStep cacheStep seenOf figureSeen figureOf
   counts-told z live pages el ep =

@@ -30,35 +30,35 @@ module _ (x : Storage) (j l : ℕ) where
   pub frame-live : liveIn (x .state) ≤ j → frameIn x j l ≡ none
   unfolding frameIn
   frame-live h =
-      ap (λ (t : Bool). cond (t && (ltb l (x .state .lines) && bit)) version none) (le-ltb j (liveIn (x .state)) h)
+      ap (λ (t : Bool). cond (t && (ltb l (x .state .registers .lines) && bit)) version none) (le-ltb j (liveIn (x .state)) h)
 
-  pub frame-past : x .state .lines ≤ l → frameIn x j l ≡ none
+  pub frame-past : x .state .registers .lines ≤ l → frameIn x j l ≡ none
   unfolding frameIn
   frame-past h =
-      ap (λ (t : Bool). cond (ltb j (liveIn (x .state)) && (t && bit)) version none) (le-ltb l (x .state .lines) h)
+      ap (λ (t : Bool). cond (ltb j (liveIn (x .state)) && (t && bit)) version none) (le-ltb l (x .state .registers .lines) h)
       ∙ ap (λ (t : Bool). cond t version none) (and-false (ltb j (liveIn (x .state))))
 
-  pub frame-at : j < liveIn (x .state) → l < x .state .lines → frameIn x j l ≡ cond bit version none
+  pub frame-at : j < liveIn (x .state) → l < x .state .registers .lines → frameIn x j l ≡ cond bit version none
   unfolding frameIn
   frame-at h b =
-      ap₂ (λ (s t : Bool). cond (s && (t && bit)) version none) (lt-ltb j (liveIn (x .state)) h) (lt-ltb l (x .state .lines) b)
+      ap₂ (λ (s t : Bool). cond (s && (t && bit)) version none) (lt-ltb j (liveIn (x .state)) h) (lt-ltb l (x .state .registers .lines) b)
 
 -- A line in a frame of two storages has its version in both alike, if it is written in both or in neither.
 pub record AlikeAt (t x : Storage) (i j l : ℕ) : Type 0 where
   pub bit : effective (writtenIn t) i l ≡ effective (writtenIn x) j l
   pub version : effective (writtenIn x) j l ≡ true → versionAt t i l ≡ versionAt x j l
 
-pub frames-alike : (t x : Storage) (i j l : ℕ) → t .state .lines ≡ x .state .lines → (i < liveIn (t .state) → j < liveIn (x .state))
+pub frames-alike : (t x : Storage) (i j l : ℕ) → t .state .registers .lines ≡ x .state .registers .lines → (i < liveIn (t .state) → j < liveIn (x .state))
     → (j < liveIn (x .state) → i < liveIn (t .state))
-    → (i < liveIn (t .state) → j < liveIn (x .state) → l < x .state .lines → AlikeAt t x (indexBack (t .state) i) (indexBack (x .state) j) l)
+    → (i < liveIn (t .state) → j < liveIn (x .state) → l < x .state .registers .lines → AlikeAt t x (indexBack (t .state) i) (indexBack (x .state) j) l)
     → frameIn t i l ≡ frameIn x j l
-frames-alike t x i j l e there back alike = go (decLt i (liveIn (t .state))) (decLt l (x .state .lines))
+frames-alike t x i j l e there back alike = go (decLt i (liveIn (t .state))) (decLt l (x .state .registers .lines))
   where
     same : (a b : Bool) (v w : Line) → a ≡ b → (b ≡ true → v ≡ w) → cond a (some v) none ≡ cond b (some w) none
     same a true v w e h = ap (λ (c : Bool). cond c (some v) none) e ∙ ap some (h refl)
     same a false v w e h = ap (λ (c : Bool). cond c (some v) none) e
 
-    go : Dec (i < liveIn (t .state)) → Dec (l < x .state .lines) → frameIn t i l ≡ frameIn x j l
+    go : Dec (i < liveIn (t .state)) → Dec (l < x .state .registers .lines) → frameIn t i l ≡ frameIn x j l
     go (yes h) (yes b) =
         let a = alike h (there h) b in
         frame-at t i l h (subst (λ (n : ℕ). l < n) (sym e) b)
@@ -70,9 +70,9 @@ frames-alike t x i j l e there back alike = go (decLt i (liveIn (t .state))) (de
         outside (yes d) = absurd (h (back d))
         outside (no d) = omega arith
 
-pub archive-past : (x : Storage) (l : ℕ) → x .state .lines ≤ l → archiveIn x l ≡ zeros
+pub archive-past : (x : Storage) (l : ℕ) → x .state .registers .lines ≤ l → archiveIn x l ≡ zeros
 unfolding archiveIn
-archive-past x l h = ap (λ (t : Bool). cond t (archiveLine (x .memory .archive) l) zeros) (le-ltb l (x .state .lines) h)
+archive-past x l h = ap (λ (t : Bool). cond t (archiveLine (x .memory .archive) l) zeros) (le-ltb l (x .state .registers .lines) h)
 
 pub well-figure : (x : Storage) → WellStore x → WellFigure (settingsIn (x .state)) (figureOf store x)
 unfolding figureOf seenOf
@@ -86,7 +86,7 @@ well-figure x q =
       line = q .version-line;
       archive-line = q .archive-line;
       archive-lines = archive-past x;
-      pages = subst (λ (n : ℕ). n ≤ x .state .pages) (pages-counted x q) (count-le (x .state .pages) (heldAt (writtenIn x) (x .memory .table) (x .memory .owners)));
+      pages = subst (λ (n : ℕ). n ≤ x .state .registers .pages) (pages-counted x q) (count-le (x .state .registers .pages) (heldAt (writtenIn x) (x .memory .table) (x .memory .owners)));
     }
 
 -- The store's well-formedness is what document 01 asks of it.

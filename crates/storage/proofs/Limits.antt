@@ -12,19 +12,19 @@ use Rattle.storage.specs.Admit.{covers}
 use Rattle.storage.proofs.Admitting.{Long, covers-long}
 
 pub record Limits (x : Storage) : Type 0 where
-  pub fits : Fits (settingsIn (x .state)) (x .state .cmf) (x .state .omf)
+  pub fits : Fits (settingsIn (x .state)) (x .state .registers .cmf) (x .state .registers .omf)
   pub good : Good (settingsIn (x .state))
   pub live-some : 0 < liveIn (x .state)
-  pub live-most : liveIn (x .state) ≤ x .state .frames
+  pub live-most : liveIn (x .state) ≤ x .state .registers .frames
 
-pub limits : (x : Storage) → stateFits (settingsIn (x .state)) (x .state .cmf) (x .state .omf) ≡ true → Limits x
+pub limits : (x : Storage) → stateFits (settingsIn (x .state)) (x .state .registers .cmf) (x .state .registers .omf) ≡ true → Limits x
 limits x e =
-    let f = fits-facts (settingsIn (x .state)) (x .state .cmf) (x .state .omf) e in
+    let f = fits-facts (settingsIn (x .state)) (x .state .registers .cmf) (x .state .registers .omf) e in
     record {
       fits = f;
       good = within-good (settingsIn (x .state)) (f .limits);
-      live-some = live-some (x .state .frames) (x .state .cmf) (x .state .omf) (f .cmf-below) (f .omf-below);
-      live-most = live-at-most (x .state .frames) (x .state .cmf) (x .state .omf) (f .cmf-below) (f .omf-below);
+      live-some = live-some (x .state .registers .frames) (x .state .registers .cmf) (x .state .registers .omf) (f .cmf-below) (f .omf-below);
+      live-most = live-at-most (x .state .registers .frames) (x .state .registers .cmf) (x .state .registers .omf) (f .cmf-below) (f .omf-below);
     }
 
 pub lent-long : (x : Storage) → enough (settingsIn (x .state)) (lengthsIn (x .memory)) ≡ true → Long (elements (settingsIn (x .state))) (lengthsIn (x .memory))

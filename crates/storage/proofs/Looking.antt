@@ -22,7 +22,7 @@ refusalOf x c = refusal (factsOf store x (noPage (settingsIn (x .state)) (seenOf
 
 -- 5 and 6 before the rest of a chain, as the code has them.
 abbrev pub admittedIn : Storage → (rest : ℕ) → ℕ
-admittedIn x rest = admitted (settingsIn (x .state)) (x .state .cmf) (x .state .omf) (lengthsIn (x .memory)) rest
+admittedIn x rest = admitted (settingsIn (x .state)) (x .state .registers .cmf) (x .state .registers .omf) (lengthsIn (x .memory)) rest
 
 module _ (x : Storage) (c : Call) (r : ℕ) (told : r ≡ refusalOf x c) where
   pub turned-down : r ≢ 0 → Promise store c x (refused r c) x

@@ -29,17 +29,17 @@ use Rattle.written.specs.Bits.{effective}
 use Rattle.written.specs.Well.{WellBits}
 use Rattle.written.proofs.Keeping.{mark-keeps}
 use Rattle.cache.specs.Entries.{lineOf}
-use Rattle.storage.specs.declared.State.{State}
+use Rattle.storage.specs.declared.Registers.{Registers}
 use Rattle.versions.specs.Newest.{pageOf}
-use Rattle.storage.specs.Storage.{Storage, settingsIn, lengthsIn, liveIn, writtenIn, frameIn, archiveIn, versionAt, latestIn, frameNumber, newestFrame, WellStore, store}
-use Rattle.storage.specs.Steps.{stateWith, markedState}
+use Rattle.storage.specs.Storage.{Storage, stateOf, settingsIn, lengthsIn, liveIn, writtenIn, frameIn, archiveIn, versionAt, latestIn, frameNumber, newestFrame, WellStore, store}
+use Rattle.storage.specs.Steps.{markedRegisters, markedState}
 use Rattle.storage.specs.Admit.{admitted}
 use Rattle.storage.proofs.Limits.{Limits, limits}
 use Rattle.storage.proofs.Chains.{admitted-rest}
 use Rattle.storage.proofs.Figures.{well-figure, step-versions, step-archive}
 use Rattle.storage.proofs.Looking.{admittedIn, turned-down, let-through}
 
-module _ (x : Storage) (q : WellStore x) (room : liveIn (x .state) < x .state .frames) where
+module _ (x : Storage) (q : WellStore x) (room : liveIn (x .state) < x .state .registers .frames) where
   abbrev n : ℕ
   n = liveIn (x .state)
 
@@ -51,28 +51,28 @@ module _ (x : Storage) (q : WellStore x) (room : liveIn (x .state) < x .state .f
 
   live : liveIn (opened .state) ≡ n + 1
   unfolding markedState
-  live = live-mark (x .state .frames) (x .state .cmf) (x .state .omf) (lim .fits .cmf-below) (lim .fits .omf-below) room
+  live = live-mark (x .state .registers .frames) (x .state .registers .cmf) (x .state .registers .omf) (lim .fits .cmf-below) (lim .fits .omf-below) room
 
   -- the frame that opens has no written bit, and the others lie one mark further back
   abbrev shape : (live back line : ℕ) → Option Line
   shape m j l =
-      cond (ltb j m && (ltb l (x .state .lines) && effective (writtenIn x) (m - 1 - j) l)) (some (versionAt x (m - 1 - j) l)) none
+      cond (ltb j m && (ltb l (x .state .registers .lines) && effective (writtenIn x) (m - 1 - j) l)) (some (versionAt x (m - 1 - j) l)) none
 
   shape-first : (l : ℕ) → shape (n + 1) 0 l ≡ none
-  shape-first l = ap (λ (t : Bool). cond (ltb 0 (n + 1) && t) (some (versionAt x (n + 1 - 1 - 0) l)) none) (go (decLt l (x .state .lines))) ∙ ap (λ (t : Bool). cond t (some (versionAt x (n + 1 - 1 - 0) l)) none) (and-false (ltb 0 (n + 1)))
+  shape-first l = ap (λ (t : Bool). cond (ltb 0 (n + 1) && t) (some (versionAt x (n + 1 - 1 - 0) l)) none) (go (decLt l (x .state .registers .lines))) ∙ ap (λ (t : Bool). cond t (some (versionAt x (n + 1 - 1 - 0) l)) none) (and-false (ltb 0 (n + 1)))
     where
-      go : Dec (l < x .state .lines) → (ltb l (x .state .lines) && effective (writtenIn x) (n + 1 - 1 - 0) l) ≡ false
+      go : Dec (l < x .state .registers .lines) → (ltb l (x .state .registers .lines) && effective (writtenIn x) (n + 1 - 1 - 0) l) ≡ false
       go (yes h) =
-          ap₂ (λ (t : Bool) (i : ℕ). t && effective (writtenIn x) i l) (lt-ltb l (x .state .lines) h) (index n)
+          ap₂ (λ (t : Bool) (i : ℕ). t && effective (writtenIn x) i l) (lt-ltb l (x .state .registers .lines) h) (index n)
           ∙ q .bits .only-live n l (omega arith) room h
         where
           index : (n : ℕ) → n + 1 - 1 - 0 ≡ n
           index n = omega arith
-      go (no h) = ap (λ (t : Bool). t && effective (writtenIn x) (n + 1 - 1 - 0) l) (le-ltb l (x .state .lines) (omega arith))
+      go (no h) = ap (λ (t : Bool). t && effective (writtenIn x) (n + 1 - 1 - 0) l) (le-ltb l (x .state .registers .lines) (omega arith))
 
   shape-next : (j l : ℕ) → shape (n + 1) (suc j) l ≡ shape n j l
   shape-next j l =
-      ap₂ (λ (t : Bool) (i : ℕ). cond (t && (ltb l (x .state .lines) && effective (writtenIn x) i l)) (some (versionAt x i l)) none) (test (decLt j n))
+      ap₂ (λ (t : Bool) (i : ℕ). cond (t && (ltb l (x .state .registers .lines) && effective (writtenIn x) i l)) (some (versionAt x i l)) none) (test (decLt j n))
       (index n j)
     where
       index : (n j : ℕ) → n + 1 - 1 - suc j ≡ n - 1 - j
@@ -103,7 +103,7 @@ module _ (x : Storage) (q : WellStore x) (room : liveIn (x .state) < x .state .f
   number-further : (o : Origin) → frameNumber (opened .state) (further o) ≡ frameNumber (x .state) o
   unfolding frameNumber further markedState
   number-further from-cache = refl
-  number-further (from-frame j) = ap (frameAt (x .state .frames) (x .state .omf)) (omega (arith, live))
+  number-further (from-frame j) = ap (frameAt (x .state .registers .frames) (x .state .registers .omf)) (omega (arith, live))
   number-further from-archive = refl
 
   opened-newest : (l : ℕ) → newestFrame opened l ≡ newestFrame x l
@@ -120,9 +120,9 @@ module _ (x : Storage) (q : WellStore x) (room : liveIn (x .state) < x .state .f
   unfolding markedState
   opened-well =
       record {
-        fits = facts-fit (settingsIn (x .state)) _ (x .state .omf) (record { limits = lim .fits .limits; cmf-below = mod-lt _ (omega (arith, lim .fits .omf-below)); omf-below = lim .fits .omf-below });
+        fits = facts-fit (settingsIn (x .state)) _ (x .state .registers .omf) (record { limits = lim .fits .limits; cmf-below = mod-lt _ (omega (arith, lim .fits .omf-below)); omf-below = lim .fits .omf-below });
         long = q .long;
-        bits = subst (λ (m : ℕ). WellBits (writtenIn x) (x .state .tag) m) (sym live) (mark-keeps (writtenIn x) (x .state .tag) n (q .bits));
+        bits = subst (λ (m : ℕ). WellBits (writtenIn x) (x .state .registers .tag) m) (sym live) (mark-keeps (writtenIn x) (x .state .registers .tag) n (q .bits));
         pages = q .pages;
         sized = q .sized;
         version-line = step-versions opened _ _ opened-figure next-well;
@@ -145,18 +145,19 @@ module _ (x : Storage) (q : WellStore x) (room : liveIn (x .state) < x .state .f
       }
 
 -- The promise: refused, and accepted.
-module _ (x : Storage) (r : ℕ) (told : r ≡ admittedIn x (unless (ltb (liveIn (x .state)) (x .state .frames)) 12 0)) where
+module _ (x : Storage) (r : ℕ) (told : r ≡ admittedIn x (unless (ltb (liveIn (x .state)) (x .state .registers .frames)) 12 0)) where
   pub mark-refused : r ≢ 0 → Promise store MARK x (outcome r) x
   unfolding refusal stateRefusal factsOf admitted refused noPage
   mark-refused z = turned-down x MARK r told z
 
-  pub mark-opens : r ≡ 0 → (s : State) → s ≡ stateWith (x .state) ((x .state .cmf + 1) % x .state .frames) (x .state .omf) (x .state .tag) (x .state .hint) (x .state .cache)
-      → Promise store MARK x (outcome 0) (record { state = s; memory = x .memory }) × (s ≡ markedState (x .state))
+  pub mark-opens : r ≡ 0 → (t : Registers) → t ≡ markedRegisters (x .state .registers)
+      → Promise store MARK x (outcome 0) (record { state = stateOf t (x .state .cache); memory = x .memory })
+      × (stateOf t (x .state .cache) ≡ markedState (x .state))
   unfolding refusal stateRefusal factsOf admitted noPage target markedState
-  mark-opens z s e =
-      let rest = admitted-rest (settingsIn (x .state)) (x .state .cmf) (x .state .omf) (lengthsIn (x .memory)) r _ told z in
-      let below = ltb-true (liveIn (x .state)) (x .state .frames) (passed (ltb (liveIn (x .state)) (x .state .frames)) 12 0 (omega arith) rest .0) in (
-        subst (λ (t : State). Promise store MARK x (outcome 0) (record { state = t; memory = x .memory })) (sym e)
+  mark-opens z t e =
+      let rest = admitted-rest (settingsIn (x .state)) (x .state .registers .cmf) (x .state .registers .omf) (lengthsIn (x .memory)) r _ told z in
+      let below = ltb-true (liveIn (x .state)) (x .state .registers .frames) (passed (ltb (liveIn (x .state)) (x .state .registers .frames)) 12 0 (omega arith) rest .0) in (
+        subst (λ (s : Registers). Promise store MARK x (outcome 0) (record { state = stateOf s (x .state .cache); memory = x .memory })) (sym e)
             (let-through x MARK r told z refl (λ q. opened-followed x q below) refl refl),
-        e,
+        ap (λ (s : Registers). stateOf s (x .state .cache)) e,
       )

@@ -40,9 +40,9 @@ use Rattle.storage.proofs.Rows.{version-same, found-same}
 
 -- What the search for a line's newest version asks of storage.
 pub record Findable (x : Storage) : Type 0 where
-  pub fits : stateFits (settingsIn (x .state)) (x .state .cmf) (x .state .omf) ≡ true
+  pub fits : stateFits (settingsIn (x .state)) (x .state .registers .cmf) (x .state .registers .omf) ≡ true
   pub pages :
-      Confirmed (neededAt (writtenIn x)) (placesOf (writtenIn x)) (x .state .pages) (λ y. getD (x .memory .table) y 0)
+      Confirmed (neededAt (writtenIn x)) (placesOf (writtenIn x)) (x .state .registers .pages) (λ y. getD (x .memory .table) y 0)
       (λ p. getD (x .memory .owners) p 0)
 
 pub well-findable : (x : Storage) → WellStore x → Findable x
@@ -56,18 +56,18 @@ module _ (x : Storage) (q : Findable x) where
   lim = limits x (q .fits)
 
   abbrev pub page : (index line : ℕ) → ℕ
-  page i l = pageOf (x .state .lines) (x .state .frames) (x .state .omf) (x .memory .table) i l
+  page i l = pageOf (x .state .registers .lines) (x .state .registers .frames) (x .state .registers .omf) (x .memory .table) i l
 
   -- A version stands in a page of the pool.
-  pub page-known : (i l : ℕ) → i < n → l < x .state .lines → effective (writtenIn x) i l ≡ true → page i l < x .state .pages
+  pub page-known : (i l : ℕ) → i < n → l < x .state .registers .lines → effective (writtenIn x) i l ≡ true → page i l < x .state .registers .pages
   unfolding pageOf placeAt
   page-known i l h b e =
-      let block : l / 8 < x .state .lines / 8 = omega (arith, lim .good .lines-by) in
-      q .pages (placeAt (writtenIn x) (frameAt (x .state .frames) (x .state .omf) i) (l / 8))
-      (place-within (writtenIn x) (frameAt (x .state .frames) (x .state .omf) i) (l / 8) (frame-below (x .state .frames) (x .state .omf) (lim .fits .omf-below) i) block)
+      let block : l / 8 < x .state .registers .lines / 8 = omega (arith, lim .good .lines-by) in
+      q .pages (placeAt (writtenIn x) (frameAt (x .state .registers .frames) (x .state .registers .omf) i) (l / 8))
+      (place-within (writtenIn x) (frameAt (x .state .registers .frames) (x .state .registers .omf) i) (l / 8) (frame-below (x .state .registers .frames) (x .state .registers .omf) (lim .fits .omf-below) i) block)
       (effective-needed (writtenIn x) i l (lim .fits .omf-below) (omega (arith, lim .live-most)) block e) .0
 
-  module _ (l : ℕ) (b : l < x .state .lines) where
+  module _ (l : ℕ) (b : l < x .state .registers .lines) where
     abbrev bits : ℕ → Bool
     bits i = effective (writtenIn x) i l
 
@@ -90,15 +90,15 @@ module _ (x : Storage) (q : Findable x) where
 
     -- a version that a search found stands where the code looks for it
     pub version-content : (r : Found) → ((i : ℕ) → r ≡ At i → (i < n) × (bits i ≡ true))
-        → contentOf (x .memory .archive) (x .memory .pool) l (spotOf (x .state .lines) (x .state .frames) (x .state .omf) (x .state .pages) (x .memory .table) l r)
+        → contentOf (x .memory .archive) (x .memory .pool) l (spotOf (x .state .registers .lines) (x .state .registers .frames) (x .state .registers .omf) (x .state .registers .pages) (x .memory .table) l r)
         ≡ versionOf (λ i. versionAt x i l) (archiveIn x l) r
     unfolding contentOf spotOf versionOf versionAt archiveIn pageOf placeAt
     version-content (At i) h =
         let g = h i refl in
-        ap (λ (t : Bool). contentOf (x .memory .archive) (x .memory .pool) l (cond t (Page (page i l)) Archive)) (lt-ltb (page i l) (x .state .pages) (page-known i l (g .0) b (g .1)))
-    version-content Nothing h = sym (ap (λ (t : Bool). cond t (archiveLine (x .memory .archive) l) zeros) (lt-ltb l (x .state .lines) b))
+        ap (λ (t : Bool). contentOf (x .memory .archive) (x .memory .pool) l (cond t (Page (page i l)) Archive)) (lt-ltb (page i l) (x .state .registers .pages) (page-known i l (g .0) b (g .1)))
+    version-content Nothing h = sym (ap (λ (t : Bool). cond t (archiveLine (x .memory .archive) l) zeros) (lt-ltb l (x .state .registers .lines) b))
 
-    pub content-latest : contentOf (x .memory .archive) (x .memory .pool) l (spotOf (x .state .lines) (x .state .frames) (x .state .omf) (x .state .pages) (x .memory .table) l newest)
+    pub content-latest : contentOf (x .memory .archive) (x .memory .pool) l (spotOf (x .state .registers .lines) (x .state .registers .frames) (x .state .registers .omf) (x .state .registers .pages) (x .memory .table) l newest)
         ≡ latestIn x l
     content-latest = version-content newest (λ i e. (newest-facts i e .below, newest-facts i e .passes)) ∙ sym latest-found
 
@@ -108,17 +108,17 @@ module _ (x : Storage) (q : Findable x) where
         found-same n (λ j. isWritten (frameIn x j l)) (λ j. bits (n - 1 - j)) (λ j h. sym (written-effective x j l h b))
         ∙ (found-back n bits ∙ ap (backOf n) (sym newest-is))
 
-    numbered : (r : Found) → ((i : ℕ) → r ≡ At i → Greatest n bits i) → numberOf (x .state .frames) (x .state .omf) r ≡ frameNumber (x .state) (backOf n r)
+    numbered : (r : Found) → ((i : ℕ) → r ≡ At i → Greatest n bits i) → numberOf (x .state .registers .frames) (x .state .registers .omf) r ≡ frameNumber (x .state) (backOf n r)
     unfolding numberOf frameNumber backOf
     numbered (At i) h =
         let g = h i refl in
-        ap (frameAt (x .state .frames) (x .state .omf)) (turned n i (g .below))
+        ap (frameAt (x .state .registers .frames) (x .state .registers .omf)) (turned n i (g .below))
       where
         turned : (n i : ℕ) → i < n → i ≡ n - 1 - (n - 1 - i)
         turned n i b = omega arith
     numbered Nothing h = refl
 
-    pub number-newest : numberOf (x .state .frames) (x .state .omf) newest ≡ newestFrame x l
+    pub number-newest : numberOf (x .state .registers .frames) (x .state .registers .omf) newest ≡ newestFrame x l
     unfolding newestFrame
     number-newest = numbered newest newest-facts ∙ ap (frameNumber (x .state)) (sym origin-found)
 
@@ -128,15 +128,15 @@ module _ (x : Storage) (q : Findable x) where
     backed Nothing = refl
 
     -- The version found by the code is the most recent one, with its frame and its origin,
-    pub newest-told : (v : Version) → v ≡ newestOf (writtenIn x) (x .state .pages) n (x .memory .archive) (x .memory .pool) (x .memory .table) l
+    pub newest-told : (v : Version) → v ≡ newestOf (writtenIn x) (x .state .registers .pages) n (x .memory .archive) (x .memory .pool) (x .memory .table) l
         → (v .content ≡ latestIn x l) × (v .frame ≡ newestFrame x l) × (originOf (v .origin) ≡ seenOf store x .origin l)
     unfolding newestOf seenOf figureSeen figureOf
     newest-told v e =
         (ap (λ (w : Version). w .content) e ∙ content-latest, ap (λ (w : Version). w .frame) e ∙ number-newest, ap (λ (w : Version). originOf (w .origin)) e ∙ (backed newest ∙ sym origin-found))
 
-module _ (x : Storage) (q : WellStore x) (l : ℕ) (b : l < x .state .lines) where
+module _ (x : Storage) (q : WellStore x) (l : ℕ) (b : l < x .state .registers .lines) where
   -- and so is the one that the cache has.
-  pub latest-told : (v : Version) → v ≡ latestOf (x .state .cache) (writtenIn x) (x .state .pages) (liveIn (x .state)) (x .memory .archive) (x .memory .pool) (x .memory .table) l
+  pub latest-told : (v : Version) → v ≡ latestOf (x .state .cache) (writtenIn x) (x .state .registers .pages) (liveIn (x .state)) (x .memory .archive) (x .memory .pool) (x .memory .table) l
       → (v .content ≡ latestIn x l) × (v .frame ≡ newestFrame x l)
       × (originOf (v .origin) ≡ cond (holds (shown (x .state .cache)) l) from-cache (seenOf store x .origin l))
   unfolding latestHeld latestFrom originOf isHit

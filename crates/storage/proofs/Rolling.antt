@@ -34,14 +34,15 @@ use Rattle.written.proofs.Rolling.{rolled-effective, rolled-well}
 use Rattle.pages.specs.Table.{placeAt}
 use Rattle.pages.proofs.Keeping.{rolled-confirmed}
 use Rattle.cache.specs.Entries.{lineOf}
-use Rattle.cache.specs.Steps.{isDropped, forgotten}
+use Rattle.cache.specs.Steps.{isDropped, flagsAfter, withFlags, forgotten}
 use Rattle.cache.specs.Shown.{shown}
 use Rattle.cache.proofs.Frames.{forgotten-sized, forgotten-shown, forgotten-all}
 use Rattle.cache.specs.declared.Cache.{Cache}
+use Rattle.storage.specs.declared.Registers.{Registers}
 use Rattle.storage.specs.declared.State.{State}
 use Rattle.versions.specs.Newest.{pageOf}
-use Rattle.storage.specs.Storage.{Storage, storageOf, memoryOf, settingsIn, lengthsIn, Recent, Coherent, liveIn, writtenIn, indexBack, frameIn, archiveIn, versionAt, latestIn, frameNumber, newestFrame, WellStore, store}
-use Rattle.storage.specs.Steps.{stateWith, rolledState, RolledTo}
+use Rattle.storage.specs.Storage.{Storage, stateOf, storageOf, memoryOf, settingsIn, lengthsIn, Recent, Coherent, liveIn, writtenIn, indexBack, frameIn, archiveIn, versionAt, latestIn, frameNumber, newestFrame, WellStore, store}
+use Rattle.storage.specs.Steps.{rolledRegisters, rolledState, RolledTo}
 use Rattle.storage.specs.Admit.{admitted}
 use Rattle.storage.proofs.Limits.{Limits, limits}
 use Rattle.storage.proofs.Chains.{frames-room}
@@ -52,7 +53,7 @@ use Rattle.storage.proofs.Numbers.{dropped-frame}
 use Rattle.storage.proofs.Rows.{shift, Within, found-within, kept-found, kept-version}
 
 module _ (x : Storage) (q : WellStore x) (k : ℕ) (low : k ≤ liveIn (x .state) - 1) (groups history : List ℕ) (next : ℕ)
-    (r : RolledBack (writtenIn x) (x .state .tag) (liveIn (x .state) - k) groups history next) where
+    (r : RolledBack (writtenIn x) (x .state .registers .tag) (liveIn (x .state) - k) groups history next) where
   abbrev n : ℕ
   n = liveIn (x .state)
 
@@ -71,13 +72,13 @@ module _ (x : Storage) (q : WellStore x) (k : ℕ) (low : k ≤ liveIn (x .state
 
   live : liveIn (dropped-to .state) ≡ kept
   unfolding rolledState
-  live = live-rollback (x .state .frames) (x .state .cmf) (x .state .omf) (lim .fits .cmf-below) (lim .fits .omf-below) k low
+  live = live-rollback (x .state .registers .frames) (x .state .registers .cmf) (x .state .registers .omf) (lim .fits .cmf-below) (lim .fits .omf-below) k low
 
   lengths : lengthsIn (dropped-to .memory) ≡ lengthsIn (x .memory)
   lengths =
       ap₂ (λ (g h : ℕ). record { archive = length (x .memory .archive); pool = length (x .memory .pool); groups = g; table = length (x .memory .table); owners = length (x .memory .owners); history = h })
-      (rolled-groups-long (writtenIn x) (x .state .tag) kept groups history next r (q .bits .tag-below))
-      (rolled-history-long (writtenIn x) (x .state .tag) kept groups history next r (q .bits .tag-below))
+      (rolled-groups-long (writtenIn x) (x .state .registers .tag) kept groups history next r (q .bits .tag-below))
+      (rolled-history-long (writtenIn x) (x .state .registers .tag) kept groups history next r (q .bits .tag-below))
 
   -- the frames that stay lie k marks nearer
   nearer : (j : ℕ) → indexBack (dropped-to .state) j ≡ indexBack (x .state) (k + j)
@@ -86,12 +87,12 @@ module _ (x : Storage) (q : WellStore x) (k : ℕ) (low : k ≤ liveIn (x .state
       index : (n : ℕ) → n - k - 1 - j ≡ n - 1 - (k + j)
       index n = omega arith
 
-  rolled-alike : (i l : ℕ) → i < kept → l < x .state .lines → AlikeAt dropped-to x i i l
+  rolled-alike : (i l : ℕ) → i < kept → l < x .state .registers .lines → AlikeAt dropped-to x i i l
   unfolding versionAt rolledState placeAt pageOf
   rolled-alike i l h b =
       record {
         bit =
-            rolled-effective (writtenIn x) (x .state .tag) kept n (q .bits) groups history next r i l (omega (arith, lim .live-most)) b
+            rolled-effective (writtenIn x) (x .state .registers .tag) kept n (q .bits) groups history next r i l (omega (arith, lim .live-most)) b
             ∙ (ap (λ (t : Bool). effective (writtenIn x) i l && t) (lt-ltb i kept h) ∙ and-true (effective (writtenIn x) i l));
         version = λ _. refl;
       }
@@ -111,11 +112,11 @@ module _ (x : Storage) (q : WellStore x) (k : ℕ) (low : k ≤ liveIn (x .state
   abbrev origin : ℕ → Origin
   origin l = foundIn n (λ j. isWritten (frameIn x j l))
 
-  gone-number : (o : Origin) → Within n o → isDropped (x .state .omf) (x .state .frames) kept (frameNumber (x .state) o) ≡ dropped k o
+  gone-number : (o : Origin) → Within n o → isDropped (x .state .registers .omf) (x .state .registers .frames) kept (frameNumber (x .state) o) ≡ dropped k o
   unfolding dropped isDropped frameNumber
   gone-number from-cache h = refl
   gone-number (from-frame j) h =
-      dropped-frame (x .state .frames) (x .state .omf) (lim .good .frames-to) (lim .fits .omf-below) kept (n - 1 - j) (omega (arith, lim .live-most))
+      dropped-frame (x .state .registers .frames) (x .state .registers .omf) (lim .good .frames-to) (lim .fits .omf-below) kept (n - 1 - j) (omega (arith, lim .live-most))
       ∙ turned (decLt j k)
     where
       turned : Dec (j < k) → not (ltb (n - 1 - j) kept) ≡ ltb j k
@@ -123,21 +124,21 @@ module _ (x : Storage) (q : WellStore x) (k : ℕ) (low : k ≤ liveIn (x .state
       turned (no b) = ap not (lt-ltb (n - 1 - j) kept (omega arith)) ∙ sym (le-ltb j k (omega arith))
   gone-number from-archive h = refl
 
-  gone-frame : (l : ℕ) → isDropped (x .state .omf) (x .state .frames) kept (newestFrame x l) ≡ dropped k (origin l)
+  gone-frame : (l : ℕ) → isDropped (x .state .registers .omf) (x .state .registers .frames) kept (newestFrame x l) ≡ dropped k (origin l)
   unfolding newestFrame
   gone-frame l = gone-number (origin l) (found-within n (λ j. isWritten (frameIn x j l)))
 
   rolled-cache : shown (dropped-to .state .cache) ≡ cacheStep (seenOf store x) (ROLLBACK k) (shown (x .state .cache))
   unfolding rolledState cacheStep seenOf figureSeen figureOf
   rolled-cache =
-      forgotten-shown (x .state .cache) (q .sized) (x .state .omf) (x .state .frames) kept (λ l. dropped k (origin l))
-      (λ e b v. sym (ap (isDropped (x .state .omf) (x .state .frames) kept) (q .coherent e v .1) ∙ gone-frame (lineOf (x .state .cache) e)))
+      forgotten-shown (x .state .cache) (q .sized) (x .state .registers .omf) (x .state .registers .frames) kept (λ l. dropped k (origin l))
+      (λ e b v. sym (ap (isDropped (x .state .registers .omf) (x .state .registers .frames) kept) (q .coherent e v .1) ∙ gone-frame (lineOf (x .state .cache) e)))
 
   -- The other lines are found as before.
   number-nearer : (o : Origin) → Within kept o → frameNumber (dropped-to .state) o ≡ frameNumber (x .state) (shift k o)
   unfolding frameNumber shift rolledState
   number-nearer from-cache h = refl
-  number-nearer (from-frame j) h = ap (frameAt (x .state .frames) (x .state .omf)) (nearer j)
+  number-nearer (from-frame j) h = ap (frameAt (x .state .registers .frames) (x .state .registers .omf)) (nearer j)
   number-nearer from-archive h = refl
 
   module _ (l : ℕ) (stays : dropped k (origin l) ≡ false) where
@@ -166,9 +167,9 @@ module _ (x : Storage) (q : WellStore x) (k : ℕ) (low : k ≤ liveIn (x .state
   rolled-coherent : Coherent dropped-to
   unfolding rolledState
   rolled-coherent =
-      forgotten-all (x .state .cache) (q .sized) (x .state .omf) (x .state .frames) kept (Recent x) (Recent dropped-to) (q .coherent)
+      forgotten-all (x .state .cache) (q .sized) (x .state .registers .omf) (x .state .registers .frames) kept (Recent x) (Recent dropped-to) (q .coherent)
       (λ l g b h c.
-      let stays = sym (gone-frame l) ∙ (sym (ap (isDropped (x .state .omf) (x .state .frames) kept) (c .1)) ∙ h) in
+      let stays = sym (gone-frame l) ∙ (sym (ap (isDropped (x .state .registers .omf) (x .state .registers .frames) kept) (c .1)) ∙ h) in
       (c .0 ∙ sym (rolled-latest l stays), c .1 ∙ sym (rolled-newest l stays)))
 
   next-well : WellFigure (settingsIn (x .state)) (figureStep (ROLLBACK k) (figureOf store x))
@@ -179,11 +180,11 @@ module _ (x : Storage) (q : WellStore x) (k : ℕ) (low : k ≤ liveIn (x .state
   unfolding rolledState
   rolled-store =
       record {
-        fits = facts-fit (settingsIn (x .state)) _ (x .state .omf) (record { limits = lim .fits .limits; cmf-below = mod-lt _ (omega (arith, lim .fits .omf-below)); omf-below = lim .fits .omf-below });
+        fits = facts-fit (settingsIn (x .state)) _ (x .state .registers .omf) (record { limits = lim .fits .limits; cmf-below = mod-lt _ (omega (arith, lim .fits .omf-below)); omf-below = lim .fits .omf-below });
         long = subst (λ (p : Pieces). enough (settingsIn (x .state)) p ≡ true) (sym lengths) (q .long);
-        bits = subst (λ (m : ℕ). WellBits (writtenIn dropped-to) next m) (sym live) (rolled-well (writtenIn x) (x .state .tag) kept n (q .bits) groups history next r (omega (arith, lim .live-most, lim .good .frames-to)));
-        pages = rolled-confirmed (writtenIn x) (x .state .tag) kept n (q .bits) groups history next r (x .state .pages) (λ y. getD (x .memory .table) y 0) (λ p. getD (x .memory .owners) p 0) (q .pages);
-        sized = forgotten-sized (x .state .cache) (q .sized) (x .state .omf) (x .state .frames) kept;
+        bits = subst (λ (m : ℕ). WellBits (writtenIn dropped-to) next m) (sym live) (rolled-well (writtenIn x) (x .state .registers .tag) kept n (q .bits) groups history next r (omega (arith, lim .live-most, lim .good .frames-to)));
+        pages = rolled-confirmed (writtenIn x) (x .state .registers .tag) kept n (q .bits) groups history next r (x .state .registers .pages) (λ y. getD (x .memory .table) y 0) (λ p. getD (x .memory .owners) p 0) (q .pages);
+        sized = forgotten-sized (x .state .cache) (q .sized) (x .state .registers .omf) (x .state .registers .frames) kept;
         version-line = step-versions dropped-to _ _ rolled-figure next-well;
         archive-line = step-archive dropped-to _ _ rolled-figure next-well;
         entries = rolled-entries;
@@ -209,21 +210,24 @@ module _ (x : Storage) (k a : ℕ) (told : a ≡ admittedIn x (markedRefusal (li
   unfolding refusal stateRefusal factsOf admitted refused noPage
   rollback-refused z = turned-down x (ROLLBACK k) a told z
 
-  module _ (z : a ≡ 0) (kept : ℕ) (kept-is : kept ≡ liveIn (x .state) - k) (groups history : List ℕ) (next : ℕ)
-      (r : RolledBack (writtenIn x) (x .state .tag % 256) kept groups history next) where
-    small : x .state .tag % 256 < 256
+  module _ (z : a ≡ 0) (live : ℕ) (live-is : live ≡ liveIn (x .state)) (groups history : List ℕ) (next : ℕ)
+      (r : RolledBack (writtenIn x) (x .state .registers .tag % 256) (live - k) groups history next) where
+    kept-is : live - k ≡ liveIn (x .state) - k
+    kept-is = ap (λ (n : ℕ). n - k) live-is
+
+    small : x .state .registers .tag % 256 < 256
     small = omega arith
 
-    exact : RolledBack (writtenIn x) (x .state .tag % 256) (liveIn (x .state) - k) groups history next
-    exact = subst (λ (n : ℕ). RolledBack (writtenIn x) (x .state .tag % 256) n groups history next) kept-is r
+    exact : RolledBack (writtenIn x) (x .state .registers .tag % 256) (liveIn (x .state) - k) groups history next
+    exact = subst (λ (n : ℕ). RolledBack (writtenIn x) (x .state .registers .tag % 256) n groups history next) kept-is r
 
     abbrev pub after : State → Storage
     after s = storageOf s (x .memory .archive) (x .memory .pool) groups (x .memory .table) (x .memory .owners) history
 
     followed : WellStore x → Followed store (ROLLBACK k) x (outcome 0) (after (rolledState (x .state) k next))
     followed q =
-        let tag : x .state .tag % 256 ≡ x .state .tag = omega (arith, q .bits .tag-below) in
-        rolled-followed x q k (frames-room (settingsIn (x .state)) (x .state .cmf) (x .state .omf) (lengthsIn (x .memory)) a k told z .k-low) groups history next
+        let tag : x .state .registers .tag % 256 ≡ x .state .registers .tag = omega (arith, q .bits .tag-below) in
+        rolled-followed x q k (frames-room (settingsIn (x .state)) (x .state .registers .cmf) (x .state .registers .omf) (lengthsIn (x .memory)) a k told z .k-low) groups history next
         (subst (λ (t : ℕ). RolledBack (writtenIn x) t (liveIn (x .state) - k) groups history next) tag exact)
 
     promised : Promise store (ROLLBACK k) x (outcome 0) (after (rolledState (x .state) k next))
@@ -231,21 +235,22 @@ module _ (x : Storage) (k a : ℕ) (told : a ≡ admittedIn x (markedRefusal (li
     promised =
         let-through x (ROLLBACK k) a told z refl followed
         (ap₂ (λ (g h : ℕ). record { archive = length (x .memory .archive); pool = length (x .memory .pool); groups = g; table = length (x .memory .table); owners = length (x .memory .owners); history = h })
-        (rolled-groups-long (writtenIn x) (x .state .tag % 256) kept groups history next r small)
-        (rolled-history-long (writtenIn x) (x .state .tag % 256) kept groups history next r small))
-        (ap₂ (λ (g h : List ℕ). memoryOf (drop (16 * x .state .lines) (x .memory .archive)) (drop (128 * x .state .pages) (x .memory .pool)) g (drop (x .state .frames * (x .state .lines / 8)) (x .memory .table)) (drop (x .state .pages) (x .memory .owners)) h)
-        (rolled-groups-past (writtenIn x) (x .state .tag % 256) kept groups history next r small)
-        (rolled-history-past (writtenIn x) (x .state .tag % 256) kept groups history next r small))
+        (rolled-groups-long (writtenIn x) (x .state .registers .tag % 256) (live - k) groups history next r small)
+        (rolled-history-long (writtenIn x) (x .state .registers .tag % 256) (live - k) groups history next r small))
+        (ap₂ (λ (g h : List ℕ). memoryOf (drop (16 * x .state .registers .lines) (x .memory .archive)) (drop (128 * x .state .registers .pages) (x .memory .pool)) g (drop (x .state .registers .frames * (x .state .registers .lines / 8)) (x .memory .table)) (drop (x .state .registers .pages) (x .memory .owners)) h)
+        (rolled-groups-past (writtenIn x) (x .state .registers .tag % 256) (live - k) groups history next r small)
+        (rolled-history-past (writtenIn x) (x .state .registers .tag % 256) (live - k) groups history next r small))
 
-    -- in the form in which the code has the state
-    pub rollback-drops : (held : Cache) (s : State) → held ≡ forgotten (x .state .cache) (x .state .omf) (x .state .frames) kept
-        → s ≡ stateWith (x .state) ((x .state .cmf + x .state .frames - k) % x .state .frames) (x .state .omf) next (x .state .hint) held
-        → Promise store (ROLLBACK k) x (outcome 0) (after s) × RolledTo (x .state) (x .memory .groups) (x .memory .history) k s groups history
-    unfolding rolledState
-    rollback-drops held s cached e =
-        let same : s ≡ rolledState (x .state) k next =
-        e ∙ ap (λ (c : Cache). stateWith (x .state) ((x .state .cmf + x .state .frames - k) % x .state .frames) (x .state .omf) next (x .state .hint) c) (cached ∙ ap (forgotten (x .state .cache) (x .state .omf) (x .state .frames)) kept-is)
+    -- in the form in which the code has the registers and the valid flags
+    pub rollback-drops : (t : Registers) (valid : List ℕ) → t ≡ rolledRegisters (x .state .registers) k next
+        → valid ≡ flagsAfter (x .state .cache .frames) (x .state .registers .omf) (x .state .registers .frames) (live - k) (x .state .cache .valid)
+        → Promise store (ROLLBACK k) x (outcome 0) (after (stateOf t (withFlags (x .state .cache) valid)))
+        × RolledTo (x .state) (x .memory .groups) (x .memory .history) k (stateOf t (withFlags (x .state .cache) valid)) groups history
+    unfolding rolledState forgotten
+    rollback-drops t valid e flags =
+        let same : stateOf t (withFlags (x .state .cache) valid) ≡ rolledState (x .state) k next =
+        λ i. stateOf (e i) (withFlags (x .state .cache) ((flags ∙ ap (λ (n : ℕ). flagsAfter (x .state .cache .frames) (x .state .registers .omf) (x .state .registers .frames) n (x .state .cache .valid)) kept-is) i))
         in (
-          subst (λ (t : State). Promise store (ROLLBACK k) x (outcome 0) (after t)) (sym same) promised,
-          subst (λ (t : State). RolledTo (x .state) (x .memory .groups) (x .memory .history) k t groups history) (sym same) (record { state = refl; memory = exact }),
+          subst (λ (s : State). Promise store (ROLLBACK k) x (outcome 0) (after s)) (sym same) promised,
+          subst (λ (s : State). RolledTo (x .state) (x .memory .groups) (x .memory .history) k s groups history) (sym same) (record { state = refl; memory = exact }),
         )

@@ -39,7 +39,7 @@ use Rattle.cache.specs.declared.Cache.{Cache}
 use Rattle.cache.specs.Steps.{emptied}
 use Rattle.cache.proofs.Uses.{empty-shown, empty-all, empty-sized}
 use Rattle.versions.specs.Steps.{zeroed}
-use Rattle.storage.specs.Storage.{Storage, storageOf, memoryOf, lengthsIn, liveIn, writtenIn, indexBack, versionAt, frameIn, archiveIn, Recent, WellStore, store}
+use Rattle.storage.specs.Storage.{Storage, stateOf, storageOf, memoryOf, lengthsIn, liveIn, writtenIn, indexBack, versionAt, frameIn, archiveIn, Recent, WellStore, store}
 use Rattle.storage.specs.declared.State.{State}
 use Rattle.storage.specs.Steps.{freshState, ResetTo}
 use Rattle.storage.specs.Admit.{covers}
@@ -49,10 +49,9 @@ use Rattle.storage.proofs.Looking.{turned-down, let-through}
 
 -- The state in the form in which the code builds it.
 pub fresh-told : (lines frames pages : ℕ) (held : Cache) → held ≡ emptied
-    → _≡_ {A = State} (record { lines = lines; frames = frames; pages = pages; cmf = 0; omf = 0; tag = 0; hint = 0; cache = held }) (freshState lines frames pages)
+    → stateOf (record { lines = lines; frames = frames; pages = pages; cmf = 0; omf = 0; tag = 0; hint = 0 }) held ≡ freshState lines frames pages
 unfolding freshState
-fresh-told lines frames pages held e =
-    ap (λ (c : Cache). record { lines = lines; frames = frames; pages = pages; cmf = 0; omf = 0; tag = 0; hint = 0; cache = c }) e
+fresh-told lines frames pages held e = ap (stateOf (record { lines = lines; frames = frames; pages = pages; cmf = 0; omf = 0; tag = 0; hint = 0 })) e
 
 -- A line of the archive that is all zero.
 zero-line : (lines : ℕ) (archive : List ℕ) (l : ℕ) → l < lines → 16 * lines ≤ length archive → archiveLine (zeroed lines archive) l ≡ zeros

@@ -1,5 +1,5 @@
 -- WRITE keeps its promise, in the form in which the code has what is left. Assumes nothing.
-use mathlib.Core.Path.{_≡_, refl, sym, _∙_, ap, subst}
+use mathlib.Core.Path.{_≡_, refl, sym, _∙_, ap, ap₂, subst}
 use mathlib.Core.Logic.{_≢_}
 use mathlib.Core.Bool.{true, false}
 use mathlib.Core.List.{List}
@@ -26,14 +26,14 @@ use Rattle.written.specs.Bits.{Lent}
 use Rattle.written.specs.Steps.{withWritten}
 use Rattle.pages.specs.Lines.{withPageLine}
 use Rattle.pages.specs.Table.{placeAt}
+use Rattle.cache.specs.declared.Cache.{Cache}
 use Rattle.cache.specs.Steps.{placed}
 use Rattle.versions.specs.declared.Version.{Version}
 use Rattle.versions.specs.Newest.{entryPlace, latestOf}
-use Rattle.versions.specs.Steps.{pageFor}
+use Rattle.versions.specs.Steps.{pageFor, hintFor}
 use Rattle.versions.proofs.Finding.{entry-within}
-use Rattle.storage.specs.declared.State.{State}
-use Rattle.storage.specs.Storage.{Storage, storageOf, memoryOf, settingsIn, lengthsIn, pastIn, liveIn, writtenIn, WellStore, store}
-use Rattle.storage.specs.Steps.{usedState, contentAfter, currentPlace, WroteTo, Put, AsksWrite}
+use Rattle.storage.specs.Storage.{Storage, stateOf, Memory, memoryOf, settingsIn, lengthsIn, pastIn, liveIn, writtenIn, WellStore, store}
+use Rattle.storage.specs.Steps.{hintedRegisters, usedState, contentAfter, currentPlace, WroteTo, Put, AsksWrite}
 use Rattle.storage.specs.Admit.{admitted}
 use Rattle.storage.proofs.Admitting.{Room, room-lent, room-newest}
 use Rattle.storage.proofs.Chains.{write-stands, write-decides, write-room}
@@ -45,20 +45,20 @@ use Rattle.storage.proofs.Writing.{stored-followed}
 
 -- What is left, in the form in which the code has it.
 pub put-told : (x : Storage) (wd a v live page : ℕ) (latest : Version)
-    → latest ≡ latestOf (x .state .cache) (writtenIn x) (x .state .pages) live (x .memory .archive) (x .memory .pool) (x .memory .table) (lineOf a)
+    → latest ≡ latestOf (x .state .cache) (writtenIn x) (x .state .registers .pages) live (x .memory .archive) (x .memory .pool) (x .memory .table) (lineOf a)
     → (content : Line) → content ≡ edit wd (offsetOf a) v (latest .content) → length content ≡ 16 → (pool groups table owners : List ℕ)
-    → pool ≡ withPageLine (x .memory .pool) page (lineOf a % 8) content → groups ≡ withWritten (writtenIn x) (x .state .tag % 256) (lineOf a) (live - 1)
-    → table ≡ set (x .memory .table) (entryPlace (x .state .lines) (frameAt (x .state .frames) (x .state .omf) (live - 1)) (lineOf a)) page
-    → owners ≡ set (x .memory .owners) page (entryPlace (x .state .lines) (frameAt (x .state .frames) (x .state .omf) (live - 1)) (lineOf a)) → (s : State)
-    → s ≡ usedState (x .state) (page + 1) (placed (x .state .cache) (lineOf a) (x .state .cmf) content)
-    → Put x wd a v live page (storageOf s (x .memory .archive) pool groups table owners (x .memory .history))
-put-told x wd a v live page latest found content is whole pool groups table owners ep eg et eo s e =
+    → pool ≡ withPageLine (x .memory .pool) page (lineOf a % 8) content → groups ≡ withWritten (writtenIn x) (x .state .registers .tag % 256) (lineOf a) (live - 1)
+    → table ≡ set (x .memory .table) (entryPlace (x .state .registers .lines) (frameAt (x .state .registers .frames) (x .state .registers .omf) (live - 1)) (lineOf a)) page
+    → owners ≡ set (x .memory .owners) page (entryPlace (x .state .registers .lines) (frameAt (x .state .registers .frames) (x .state .registers .omf) (live - 1)) (lineOf a))
+    → (cache : Cache) → cache ≡ placed (x .state .cache) (lineOf a) (x .state .registers .cmf) content
+    → Put x wd a v live page cache (memoryOf (x .memory .archive) pool groups table owners (x .memory .history))
+put-told x wd a v live page latest found content is whole pool groups table owners ep eg et eo cache e =
     record {
       content = content;
       content-is = is ∙ ap (λ (y : Version). edit wd (offsetOf a) v (y .content)) found;
       content-long = whole;
-      state = e;
-      memory = λ i. memoryOf (x .memory .archive) (ep i) (eg i) (et i) (eo i) (x .memory .history);
+      cache-is = e;
+      memory-is = λ i. memoryOf (x .memory .archive) (ep i) (eg i) (et i) (eo i) (x .memory .history);
     }
 
 module _ (x : Storage) (wd a v r : ℕ) (told : r ≡ admittedIn x (writeRefusal (settingsIn (x .state)) wd a v 0)) where
@@ -66,10 +66,10 @@ module _ (x : Storage) (wd a v r : ℕ) (told : r ≡ admittedIn x (writeRefusal
   l = lineOf a
 
   abbrev choice : (hint : ℕ) → Found
-  choice hint = pageFor (writtenIn x) (x .state .pages) hint (x .memory .table) (x .memory .owners) (x .state .cmf) l
+  choice hint = pageFor (writtenIn x) (x .state .registers .pages) hint (x .memory .table) (x .memory .owners) (x .state .registers .cmf) l
 
   chain : (rest : ℕ) → r ≢ 0 → r ≡ admittedIn x (writeRefusal (settingsIn (x .state)) wd a v rest)
-  chain rest z = write-stands (settingsIn (x .state)) (x .state .cmf) (x .state .omf) (lengthsIn (x .memory)) wd a v r told z rest
+  chain rest z = write-stands (settingsIn (x .state)) (x .state .registers .cmf) (x .state .registers .omf) (lengthsIn (x .memory)) wd a v r told z rest
 
   pub write-refused : r ≢ 0 → Promise store (WRITE wd a v) x (outcome r) x
   unfolding refusal stateRefusal factsOf admitted refused
@@ -77,22 +77,22 @@ module _ (x : Storage) (wd a v r : ℕ) (told : r ≡ admittedIn x (writeRefusal
 
   module _ (z : r ≡ 0) where
     decides : (rest : ℕ) → rest ≡ admittedIn x (writeRefusal (settingsIn (x .state)) wd a v rest)
-    decides = write-decides (settingsIn (x .state)) (x .state .cmf) (x .state .omf) (lengthsIn (x .memory)) wd a v r told z
+    decides = write-decides (settingsIn (x .state)) (x .state .registers .cmf) (x .state .registers .omf) (lengthsIn (x .memory)) wd a v r told z
 
     placed-there : Placed (settingsIn (x .state)) wd a
-    placed-there = write-room (settingsIn (x .state)) (x .state .cmf) (x .state .omf) (lengthsIn (x .memory)) r wd a v told z .1
+    placed-there = write-room (settingsIn (x .state)) (x .state .registers .cmf) (x .state .registers .omf) (lengthsIn (x .memory)) r wd a v told z .1
 
-    below : l < x .state .lines
+    below : l < x .state .registers .lines
     below = line-below placed-there
 
-    room : Room (settingsIn (x .state)) (x .state .cmf) (x .state .omf) (lengthsIn (x .memory))
-    room = write-room (settingsIn (x .state)) (x .state .cmf) (x .state .omf) (lengthsIn (x .memory)) r wd a v told z .0 .room
+    room : Room (settingsIn (x .state)) (x .state .registers .cmf) (x .state .registers .omf) (lengthsIn (x .memory))
+    room = write-room (settingsIn (x .state)) (x .state .registers .cmf) (x .state .registers .omf) (lengthsIn (x .memory)) r wd a v told z .0 .room
 
     -- what the layers ask
-    pub asks-write : (live page : ℕ) → live ≡ liveIn (x .state) → choice (x .state .hint) ≡ At page → AsksWrite x wd a live page
+    pub asks-write : (live page : ℕ) → live ≡ liveIn (x .state) → choice (x .state .registers .hint) ≡ At page → AsksWrite x wd a live page
     unfolding elements
     asks-write live page e found =
-        let newest = room-newest (settingsIn (x .state)) (x .state .cmf) (x .state .omf) (length (x .memory .owners)) (x .memory .archive) (x .memory .pool) (x .memory .groups) (x .memory .table) (x .memory .history) room live l e below in
+        let newest = room-newest (settingsIn (x .state)) (x .state .registers .cmf) (x .state .registers .omf) (length (x .memory .owners)) (x .memory .archive) (x .memory .pool) (x .memory .groups) (x .memory .table) (x .memory .history) room live l e below in
         record {
           newest = newest;
           put =
@@ -102,30 +102,43 @@ module _ (x : Storage) (wd a v r : ℕ) (told : r ≡ admittedIn x (writeRefusal
                 index-below = omega (arith, newest .live-some, newest .live-within);
                 tag-below = omega arith;
                 pages-few = room .good .pages-to;
-                page-below = page-below (writtenIn x) (x .state .pages) (x .state .hint) (x .memory .table) (x .memory .owners) (x .state .cmf) l page found;
+                page-below = page-below (writtenIn x) (x .state .registers .pages) (x .state .registers .hint) (x .memory .table) (x .memory .owners) (x .state .registers .cmf) l page found;
                 pool-long = room .long .pool;
                 owners-long = room .long .owners;
               };
-          bytes = write-room (settingsIn (x .state)) (x .state .cmf) (x .state .omf) (lengthsIn (x .memory)) r wd a v told z .0 .bytes;
+          bytes = write-room (settingsIn (x .state)) (x .state .registers .cmf) (x .state .registers .omf) (lengthsIn (x .memory)) r wd a v told z .0 .bytes;
           cmf-below = room .fits .cmf-below;
         }
 
     -- 13
-    pub write-full : choice (x .state .hint) ≡ Nothing → Promise store (WRITE wd a v) x (outcome 13) x
+    pub write-full : choice (x .state .registers .hint) ≡ Nothing → Promise store (WRITE wd a v) x (outcome 13) x
     unfolding refusal stateRefusal factsOf admitted refused noPage unless
     write-full e =
         subst (λ (n : ℕ). Promise store (WRITE wd a v) x (outcome n) x) (sym (decides 13))
-        (refuse store (WRITE wd a v) x true (λ q. sym (none-chosen x q l below (x .state .hint) e)) (λ d. let n : _≡_ {A = ℕ} 13 0 = decides 13 ∙ d in absurd (omega arith)))
+        (refuse store (WRITE wd a v) x true (λ q. sym (none-chosen x q l below (x .state .registers .hint) e)) (λ d. let n : _≡_ {A = ℕ} 13 0 = decides 13 ∙ d in absurd (omega arith)))
 
-    module _ (page : ℕ) (found : choice (x .state .hint) ≡ At page) (live : ℕ) (live-is : live ≡ liveIn (x .state)) (t : Storage) (put : Put x wd a v live page t) where
-      page-few : page < x .state .pages
-      page-few = page-below (writtenIn x) (x .state .pages) (x .state .hint) (x .memory .table) (x .memory .owners) (x .state .cmf) l page found
+    module _ (picked : Found) (picked-is : picked ≡ choice (x .state .registers .hint)) (page : ℕ) (at-page : picked ≡ At page) (live : ℕ) (live-is : live ≡ liveIn (x .state)) (cache : Cache) (memory : Memory) (put : Put x wd a v live page cache memory)
+        (next : ℕ) (next-told : next ≡ hintFor (writtenIn x) (x .state .registers .hint) (x .state .registers .cmf) l picked) where
+      abbrev t : Storage
+      t = record { state = stateOf (hintedRegisters (x .state .registers) next) cache; memory = memory }
+
+      abbrev behind : ℕ
+      behind = hintFor (writtenIn x) (x .state .registers .hint) (x .state .registers .cmf) l (At page)
+
+      next-is : next ≡ behind
+      next-is = next-told ∙ ap (hintFor (writtenIn x) (x .state .registers .hint) (x .state .registers .cmf) l) at-page
+
+      found : choice (x .state .registers .hint) ≡ At page
+      found = sym picked-is ∙ at-page
+
+      page-few : page < x .state .registers .pages
+      page-few = page-below (writtenIn x) (x .state .registers .pages) (x .state .registers .hint) (x .memory .table) (x .memory .owners) (x .state .registers .cmf) l page found
 
       -- Inside the lent memory, on any storage.
       abbrev entry : ℕ
-      entry = entryPlace (x .state .lines) (frameAt (x .state .frames) (x .state .omf) (live - 1)) l
+      entry = entryPlace (x .state .registers .lines) (frameAt (x .state .registers .frames) (x .state .registers .omf) (live - 1)) l
 
-      pool-room : 128 * x .state .pages ≤ length (x .memory .pool)
+      pool-room : 128 * x .state .registers .pages ≤ length (x .memory .pool)
       unfolding elements
       pool-room = room .long .pool
 
@@ -134,12 +147,12 @@ module _ (x : Storage) (wd a v r : ℕ) (told : r ≡ admittedIn x (writeRefusal
 
       lengths : lengthsIn (t .memory) ≡ lengthsIn (x .memory)
       lengths =
-          ap lengthsIn (put .memory)
+          ap lengthsIn (put .memory-is)
           ∙ (λ i.
           record {
             archive = length (x .memory .archive);
             pool = length-written (x .memory .pool) (put .content) at (omega (arith, pool-room, page-few)) (put .content-long) i;
-            groups = written-long (writtenIn x) (x .state .tag % 256) l (live - 1) i;
+            groups = written-long (writtenIn x) (x .state .registers .tag % 256) l (live - 1) i;
             table = length-set (x .memory .table) entry page i;
             owners = length-set (x .memory .owners) page entry i;
             history = length (x .memory .history);
@@ -148,45 +161,48 @@ module _ (x : Storage) (wd a v r : ℕ) (told : r ≡ admittedIn x (writeRefusal
       past : pastIn (elements (settingsIn (x .state))) (t .memory) ≡ pastIn (elements (settingsIn (x .state))) (x .memory)
       unfolding elements
       past =
-          ap (pastIn (elements (settingsIn (x .state)))) (put .memory)
+          ap (pastIn (elements (settingsIn (x .state)))) (put .memory-is)
           ∙ (λ i.
-          memoryOf (drop (16 * x .state .lines) (x .memory .archive))
-          (past-written (x .memory .pool) (put .content) at (omega (arith, pool-room, page-few)) (put .content-long) (128 * x .state .pages) (omega (arith, page-few)) i)
-          (written-past (writtenIn x) (x .state .tag % 256) l (live - 1) lent below i)
-          (drop-set (x .memory .table) entry (x .state .frames * (x .state .lines / 8)) page (entry-within (x .state .lines) (x .state .frames) (frameAt (x .state .frames) (x .state .omf) (live - 1)) l (room .good .lines-by) (frame-below (x .state .frames) (x .state .omf) (room .fits .omf-below) (live - 1)) below) i)
-          (drop-set (x .memory .owners) page (x .state .pages) entry page-few i)
+          memoryOf (drop (16 * x .state .registers .lines) (x .memory .archive))
+          (past-written (x .memory .pool) (put .content) at (omega (arith, pool-room, page-few)) (put .content-long) (128 * x .state .registers .pages) (omega (arith, page-few)) i)
+          (written-past (writtenIn x) (x .state .registers .tag % 256) l (live - 1) lent below i)
+          (drop-set (x .memory .table) entry (x .state .registers .frames * (x .state .registers .lines / 8)) page (entry-within (x .state .registers .lines) (x .state .registers .frames) (frameAt (x .state .registers .frames) (x .state .registers .omf) (live - 1)) l (room .good .lines-by) (frame-below (x .state .registers .frames) (x .state .registers .omf) (room .fits .omf-below) (live - 1)) below) i)
+          (drop-set (x .memory .owners) page (x .state .registers .pages) entry page-few i)
           (drop 256 (x .memory .history)))
         where
           lent : Lent (writtenIn x)
           lent =
-              room-lent (settingsIn (x .state)) (x .state .cmf) (x .state .omf) (length (x .memory .archive)) (length (x .memory .pool)) (length (x .memory .table)) (length (x .memory .owners)) (x .memory .groups) (x .memory .history) room
+              room-lent (settingsIn (x .state)) (x .state .registers .cmf) (x .state .registers .omf) (length (x .memory .archive)) (length (x .memory .pool)) (length (x .memory .table)) (length (x .memory .owners)) (x .memory .groups) (x .memory .history) room
 
       -- What it is on well-formed storage.
       module _ (q : WellStore x) where
         abbrev c : Chosen x q l below page
-        c = chosen x q l below (x .state .hint) page found
+        c = chosen x q l below (x .state .registers .hint) page found
 
         same-content : put .content ≡ contentAfter x wd a v
         unfolding contentAfter
         same-content =
             put .content-is
-            ∙ (ap (λ (m : ℕ). edit wd (offsetOf a) v (latestOf (x .state .cache) (writtenIn x) (x .state .pages) m (x .memory .archive) (x .memory .pool) (x .memory .table) l .content)) live-is
+            ∙ (ap (λ (m : ℕ). edit wd (offsetOf a) v (latestOf (x .state .cache) (writtenIn x) (x .state .registers .pages) m (x .memory .archive) (x .memory .pool) (x .memory .table) l .content)) live-is
             ∙ ap (edit wd (offsetOf a) v) (latest-told x q l below _ refl .0))
 
-        same-state : t .state ≡ usedState (x .state) (page + 1) (placed (x .state .cache) l (x .state .cmf) (contentAfter x wd a v))
-        same-state = put .state ∙ ap (λ (y : Line). usedState (x .state) (page + 1) (placed (x .state .cache) l (x .state .cmf) y)) same-content
+        same-state : t .state ≡ usedState (x .state) behind (placed (x .state .cache) l (x .state .registers .cmf) (contentAfter x wd a v))
+        unfolding usedState
+        same-state =
+            ap₂ (λ (n : ℕ) (y : Cache). stateOf (hintedRegisters (x .state .registers) n) y) next-is
+            (put .cache-is ∙ ap (placed (x .state .cache) l (x .state .registers .cmf)) same-content)
 
         same-memory : t .memory
-            ≡ memoryOf (x .memory .archive) (withPageLine (x .memory .pool) page (l % 8) (contentAfter x wd a v)) (withWritten (writtenIn x) (x .state .tag) l (liveIn (x .state) - 1))
+            ≡ memoryOf (x .memory .archive) (withPageLine (x .memory .pool) page (l % 8) (contentAfter x wd a v)) (withWritten (writtenIn x) (x .state .registers .tag) l (liveIn (x .state) - 1))
             (set (x .memory .table) (currentPlace x l) page) (set (x .memory .owners) page (currentPlace x l)) (x .memory .history)
         unfolding placeAt
         same-memory =
-            let tag : x .state .tag % 256 ≡ x .state .tag = omega (arith, q .bits .tag-below) in
-            put .memory
+            let tag : x .state .registers .tag % 256 ≡ x .state .registers .tag = omega (arith, q .bits .tag-below) in
+            put .memory-is
             ∙ (λ i.
             memoryOf (x .memory .archive) (withPageLine (x .memory .pool) page (l % 8) (same-content i)) (withWritten (writtenIn x) (tag i) l (live-is i - 1))
-            (set (x .memory .table) (entryPlace (x .state .lines) (frameAt (x .state .frames) (x .state .omf) (live-is i - 1)) l) page)
-            (set (x .memory .owners) page (entryPlace (x .state .lines) (frameAt (x .state .frames) (x .state .omf) (live-is i - 1)) l)) (x .memory .history))
+            (set (x .memory .table) (entryPlace (x .state .registers .lines) (frameAt (x .state .registers .frames) (x .state .registers .omf) (live-is i - 1)) l) page)
+            (set (x .memory .owners) page (entryPlace (x .state .registers .lines) (frameAt (x .state .registers .frames) (x .state .registers .omf) (live-is i - 1)) l)) (x .memory .history))
 
         pub write-left : WroteTo x wd a v t
         write-left = record { page = page; page-below = page-few; page-own = c .own; page-free = c .unheld; state = same-state; memory = same-memory }
@@ -195,7 +211,7 @@ module _ (x : Storage) (wd a v r : ℕ) (told : r ≡ admittedIn x (writeRefusal
         unfolding contentAfter
         followed =
             subst (λ (y : Storage). Followed store (WRITE wd a v) x (outcome 0) y) (sym (λ i. record { state = same-state i; memory = same-memory i }))
-            (stored-followed x q wd a v placed-there below (page + 1) page c)
+            (stored-followed x q wd a v placed-there below behind page c)
 
       pub write-done : Promise store (WRITE wd a v) x (outcome 0) t
       unfolding refusal stateRefusal factsOf admitted noPage unless target

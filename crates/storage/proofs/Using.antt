@@ -3,9 +3,9 @@ use mathlib.Core.Path.{_≡_, refl, sym, _∙_, ap, ap₂, subst}
 use mathlib.Core.Logic.{_≢_}
 use mathlib.Core.Bool.{cond}
 use mathlib.Core.List.{List, []}
-use Prim.Native.Nat.{ℕ, _+_, _-_, _*_, _%_, _≤_, _<_}
+use Prim.Native.Nat.{ℕ, _+_, _-_, _*_, _/_, _%_, _≤_, _<_}
 use native.Mathlib.Omega.{arith}
-use lib.ListN.{length, take, drop}
+use lib.ListN.{length, take, drop, set}
 use Rattle.rules.specs.Line.{Line, lineOf, offsetOf, valueAt}
 use Rattle.rules.specs.Call.{Answer, refused}
 use Rattle.rules.specs.Call.Origin.{from-cache, from-archive}
@@ -24,17 +24,21 @@ use Rattle.frames.specs.declared.Found.{Found}
 use Rattle.written.specs.Bits.{newestFrom}
 use Rattle.pages.specs.Table.{placeAt}
 use Rattle.cache.specs.declared.Cache.{Cache}
+use Rattle.cache.specs.declared.Entry.{Entry}
+use Rattle.cache.specs.declared.Entry.the-variants.{Hit, Miss}
+use Rattle.cache.specs.Entries.{cacheOf, frameOf, bytesOf, found}
 use Rattle.cache.specs.Steps.{placed}
 use Rattle.cache.specs.Shown.{shown}
-use Rattle.cache.proofs.Uses.{placed-sized, placed-shown, placed-all}
+use Rattle.cache.proofs.Uses.{placed-sized, placed-shown, placed-all, hit-placed}
 use Rattle.versions.specs.declared.Spot.{Spot}
 use Rattle.versions.specs.declared.Spot.the-variants.{Page, Archive}
 use Rattle.versions.specs.declared.Version.{Version}
-use Rattle.versions.specs.Newest.{pageOf, spotOf, contentOf, originOf, latestOf}
-use Rattle.versions.proofs.Finding.{spot-below}
+use Rattle.versions.specs.declared.Origin.the-variants as origin
+use Rattle.versions.specs.Newest.{pageOf, spotOf, contentOf, originOf, newestOf, latestOf}
+use Rattle.versions.proofs.Finding.{spot-below, latest-hit, latest-miss}
 use Rattle.storage.specs.declared.State.{State}
-use Rattle.storage.specs.Storage.{Storage, settingsIn, lengthsIn, liveIn, writtenIn, frameIn, archiveIn, versionAt, latestIn, newestFrame, Recent, WellStore, store}
-use Rattle.storage.specs.Steps.{stateWith, usedState, readState}
+use Rattle.storage.specs.Storage.{Storage, stateOf, settingsIn, lengthsIn, liveIn, writtenIn, frameIn, archiveIn, versionAt, latestIn, newestFrame, Recent, WellStore, store}
+use Rattle.storage.specs.Steps.{hintedRegisters, usedState, readState}
 use Rattle.storage.specs.Admit.{admitted}
 use Rattle.storage.proofs.Chains.{admitted-rest, line-room}
 use Rattle.storage.proofs.Looking.{admittedIn, turned-down, let-through}
@@ -42,7 +46,7 @@ use Rattle.storage.proofs.Numbers.{used-number}
 use Rattle.storage.proofs.Reading.{well-findable, content-latest, latest-told, latest-line}
 
 -- A use of a line by a READ: the cache has its most recent version, and all else is as it was.
-module _ (x : Storage) (q : WellStore x) (l : ℕ) (b : l < x .state .lines) where
+module _ (x : Storage) (q : WellStore x) (l : ℕ) (b : l < x .state .registers .lines) where
   abbrev pub used : Storage
   used = record { state = readState x l; memory = x .memory }
 
@@ -55,7 +59,7 @@ module _ (x : Storage) (q : WellStore x) (l : ℕ) (b : l < x .state .lines) whe
 
   used-newest : (m : ℕ) → newestFrame used m ≡ newestFrame x m
   unfolding newestFrame readState usedState frameIn versionAt placeAt pageOf
-  used-newest m = used-number (x .state) (x .state .hint) (placed (x .state .cache) l (newestFrame x l) (latestIn x l)) (foundIn (liveIn (x .state)) (λ j. isWritten (frameIn x j m)))
+  used-newest m = used-number (x .state) (x .state .registers .hint) (placed (x .state .cache) l (newestFrame x l) (latestIn x l)) (foundIn (liveIn (x .state)) (λ j. isWritten (frameIn x j m)))
 
   used-well : WellStore used
   unfolding readState usedState frameIn archiveIn versionAt latestIn placeAt pageOf
@@ -72,6 +76,12 @@ module _ (x : Storage) (q : WellStore x) (l : ℕ) (b : l < x .state .lines) whe
         coherent = placed-all (x .state .cache) (q .sized) l (newestFrame x l) (latestIn x l) long (Recent x) (Recent used) (settingsIn (x .state)) (q .entries) (q .coherent) (refl, sym (used-newest l)) (λ m g c d r. (r .0, r .1 ∙ sym (used-newest m)));
       }
 
+-- The state after a use of a line, as the code has it.
+pub used-done : (s : State) (hint line frame : ℕ) (content : List ℕ) (k : Cache) → k ≡ placed (s .cache) line frame content
+    → stateOf (hintedRegisters (s .registers) hint) k ≡ usedState s hint (placed (s .cache) line frame content)
+unfolding usedState
+used-done s hint line frame content k e = ap (stateOf (hintedRegisters (s .registers) hint)) e
+
 module _ (x : Storage) (w a : ℕ) where
   abbrev l : ℕ
   l = lineOf a
@@ -79,7 +89,7 @@ module _ (x : Storage) (w a : ℕ) where
   abbrev due : Answer
   due = reading 0 (valueAt w (offsetOf a) (latestIn x l)) (cond (holds (shown (x .state .cache)) l) from-cache (seenOf store x .origin l))
 
-  read-followed : (q : WellStore x) (b : l < x .state .lines) → Followed store (READ w a) x due (used x q l b)
+  read-followed : (q : WellStore x) (b : l < x .state .registers .lines) → Followed store (READ w a) x due (used x q l b)
   unfolding accepted cmfStep omfStep figureStep cacheStep readState usedState frameIn archiveIn versionAt placeAt figureOf seenOf figureSeen mrv latestIn pageOf
   read-followed q b =
       record {
@@ -99,26 +109,26 @@ module _ (x : Storage) (w a : ℕ) where
 
     module _ (z : r ≡ 0) where
       pub place-known : Placed (settingsIn (x .state)) w a
-      place-known = place-passed (settingsIn (x .state)) w a 0 (admitted-rest (settingsIn (x .state)) (x .state .cmf) (x .state .omf) (lengthsIn (x .memory)) r _ told z) .0
+      place-known = place-passed (settingsIn (x .state)) w a 0 (admitted-rest (settingsIn (x .state)) (x .state .registers .cmf) (x .state .registers .omf) (lengthsIn (x .memory)) r _ told z) .0
 
       -- in the form in which the code has the version, the value, the cache and the state
       module _ (live : ℕ) (live-is : live ≡ liveIn (x .state)) (v : Version)
-          (found : v ≡ latestOf (x .state .cache) (writtenIn x) (x .state .pages) live (x .memory .archive) (x .memory .pool) (x .memory .table) l)
+          (found : v ≡ latestOf (x .state .cache) (writtenIn x) (x .state .registers .pages) live (x .memory .archive) (x .memory .pool) (x .memory .table) l)
           (value : ℕ) (valued : value ≡ valueAt w (offsetOf a) (v .content)) (s : State)
-          (is : s ≡ usedState (x .state) (x .state .hint) (placed (x .state .cache) l (v .frame) (v .content))) where
+          (is : s ≡ usedState (x .state) (x .state .registers .hint) (placed (x .state .cache) l (v .frame) (v .content))) where
         module _ (q : WellStore x) where
-          b : l < x .state .lines
+          b : l < x .state .registers .lines
           b = line-below place-known
 
           abbrev facts : (v .content ≡ latestIn x l) × (v .frame ≡ newestFrame x l) × (originOf (v .origin) ≡ cond (holds (shown (x .state .cache)) l) from-cache (seenOf store x .origin l))
           facts =
               latest-told x q l b v
-              (found ∙ ap (λ (m : ℕ). latestOf (x .state .cache) (writtenIn x) (x .state .pages) m (x .memory .archive) (x .memory .pool) (x .memory .table) l) live-is)
+              (found ∙ ap (λ (m : ℕ). latestOf (x .state .cache) (writtenIn x) (x .state .registers .pages) m (x .memory .archive) (x .memory .pool) (x .memory .table) l) live-is)
 
-          pub read-state : s ≡ readState x l
+          read-state : s ≡ readState x l
           unfolding readState
           read-state =
-              is ∙ ap₂ (λ (f : ℕ) (y : Line). usedState (x .state) (x .state .hint) (placed (x .state .cache) l f y)) (facts .1) (facts .0)
+              is ∙ ap₂ (λ (f : ℕ) (y : Line). usedState (x .state) (x .state .registers .hint) (placed (x .state .cache) l f y)) (facts .1) (facts .0)
 
           read-answer : reading 0 value (originOf (v .origin)) ≡ due
           read-answer = ap₂ (reading 0) (valued ∙ ap (valueAt w (offsetOf a)) (facts .0)) (facts .2)
@@ -128,9 +138,56 @@ module _ (x : Storage) (w a : ℕ) where
               subst (λ (o : Answer). Followed store (READ w a) x o (record { state = s; memory = x .memory })) (sym read-answer)
               (subst (λ (t : State). Followed store (READ w a) x due (record { state = t; memory = x .memory })) (sym read-state) (read-followed q b))
 
-        pub read-told : Promise store (READ w a) x (reading 0 value (originOf (v .origin))) (record { state = s; memory = x .memory })
+        read-told : Promise store (READ w a) x (reading 0 value (originOf (v .origin))) (record { state = s; memory = x .memory })
         unfolding refusal stateRefusal factsOf admitted noPage target
         read-told = let-through x (READ w a) r told z (_, _, refl) read-step refl refl
+
+      -- What the code has of it: an entry of the cache that holds the line,
+      module _ (live : ℕ) (live-is : live ≡ liveIn (x .state)) (f : Entry) (f-is : f ≡ found (x .state .cache) l) where
+        abbrev c : Cache
+        c = x .state .cache
+
+        module _ (e : ℕ) (at-entry : f ≡ Hit e) (content : Line) (content-is : content ≡ bytesOf c e) (value : ℕ)
+            (valued : value ≡ valueAt w (offsetOf a) content) (last : List ℕ) (last-is : last ≡ set (c .last) (e / 2) (e % 2)) where
+          abbrev held : Version
+          held = record { content = content; frame = frameOf c e; origin = origin.Cache }
+
+          abbrev after : State
+          after = stateOf (x .state .registers) (cacheOf (c .lines) (c .frames) (c .valid) (c .bytes) last)
+
+          held-is : held ≡ latestOf c (writtenIn x) (x .state .registers .pages) live (x .memory .archive) (x .memory .pool) (x .memory .table) l
+          held-is =
+              latest-hit (c .lines) (c .frames) (c .valid) (c .bytes) (writtenIn x) (x .state .registers .pages) live l (x .memory .archive) (x .memory .pool) (x .memory .table) f f-is
+              e (frameOf c e) content at-entry content-is refl
+
+          after-is : after ≡ usedState (x .state) (x .state .registers .hint) (placed c l (frameOf c e) content)
+          after-is =
+              used-done (x .state) (x .state .registers .hint) l (frameOf c e) content _
+              (hit-placed c l e (sym f-is ∙ at-entry) last last-is ∙ ap (placed c l (frameOf c e)) (sym content-is))
+
+          pub hit-told : Promise store (READ w a) x (reading 0 value (originOf origin.Cache)) (record { state = after; memory = x .memory })
+          hit-told = read-told live live-is held held-is value valued after after-is
+
+          pub hit-state : WellStore x → after ≡ readState x l
+          hit-state = read-state live live-is held held-is value valued after after-is
+
+        -- or the newest version, which the cache takes in.
+        module _ (missed : f ≡ Miss) (v : Version)
+            (v-is : v ≡ newestOf (writtenIn x) (x .state .registers .pages) live (x .memory .archive) (x .memory .pool) (x .memory .table) l) (value : ℕ)
+            (valued : value ≡ valueAt w (offsetOf a) (v .content)) (k : Cache) (k-is : k ≡ placed c l (v .frame) (v .content)) where
+          found-is : v ≡ latestOf c (writtenIn x) (x .state .registers .pages) live (x .memory .archive) (x .memory .pool) (x .memory .table) l
+          found-is =
+              latest-miss (c .lines) (c .frames) (c .valid) (c .bytes) (writtenIn x) (x .state .registers .pages) live l (x .memory .archive) (x .memory .pool) (x .memory .table) f f-is
+              v missed v-is
+
+          loaded-is : stateOf (x .state .registers) k ≡ usedState (x .state) (x .state .registers .hint) (placed c l (v .frame) (v .content))
+          loaded-is = used-done (x .state) (x .state .registers .hint) l (v .frame) (v .content) k k-is
+
+          pub miss-told : Promise store (READ w a) x (reading 0 value (originOf (v .origin))) (record { state = stateOf (x .state .registers) k; memory = x .memory })
+          miss-told = read-told live live-is v found-is value valued (stateOf (x .state .registers) k) loaded-is
+
+          pub miss-state : WellStore x → stateOf (x .state .registers) k ≡ readState x l
+          miss-state = read-state live live-is v found-is value valued (stateOf (x .state .registers) k) loaded-is
 
 -- LINE lends the bytes where they stand.
 module _ (x : Storage) (l r : ℕ) (told : r ≡ admittedIn x (lineRefusal (settingsIn (x .state)) l)) where
@@ -139,12 +196,12 @@ module _ (x : Storage) (l r : ℕ) (told : r ≡ admittedIn x (lineRefusal (sett
   line-refused z = turned-down x (LINE l) r told z
 
   module _ (z : r ≡ 0) (live : ℕ) (live-is : live ≡ liveIn (x .state)) (found : Found) (found-is : found ≡ newestFrom (writtenIn x) l (live - 1))
-      (spot : Spot) (spot-is : spot ≡ spotOf (x .state .lines) (x .state .frames) (x .state .omf) (x .state .pages) (x .memory .table) l found) where
+      (spot : Spot) (spot-is : spot ≡ spotOf (x .state .registers .lines) (x .state .registers .frames) (x .state .registers .omf) (x .state .registers .pages) (x .memory .table) l found) where
     followed : (bytes : List ℕ) → bytes ≡ contentOf (x .memory .archive) (x .memory .pool) l spot → WellStore x → Followed store (LINE l) x (lending bytes) x
     unfolding accepted figureStep cmfStep omfStep cacheStep seenOf figureSeen figureOf mrv latestIn
     followed bytes e q =
         record {
-          answer = ap lending (e ∙ (ap (contentOf (x .memory .archive) (x .memory .pool) l) (spot-is ∙ ap (spotOf (x .state .lines) (x .state .frames) (x .state .omf) (x .state .pages) (x .memory .table) l) (found-is ∙ ap (λ (m : ℕ). newestFrom (writtenIn x) l (m - 1)) live-is)) ∙ content-latest x (well-findable x q) l (line-room (settingsIn (x .state)) (x .state .cmf) (x .state .omf) (lengthsIn (x .memory)) r l told z .line-below)));
+          answer = ap lending (e ∙ (ap (contentOf (x .memory .archive) (x .memory .pool) l) (spot-is ∙ ap (spotOf (x .state .registers .lines) (x .state .registers .frames) (x .state .registers .omf) (x .state .registers .pages) (x .memory .table) l) (found-is ∙ ap (λ (m : ℕ). newestFrom (writtenIn x) l (m - 1)) live-is)) ∙ content-latest x (well-findable x q) l (line-room (settingsIn (x .state)) (x .state .registers .cmf) (x .state .registers .omf) (lengthsIn (x .memory)) r l told z .line-below)));
           well = q;
           settings = refl;
           cmf = refl;
@@ -177,10 +234,3 @@ module _ (x : Storage) (l r : ℕ) (told : r ≡ admittedIn x (lineRefusal (sett
 pub page-end : (lines frames omf pages : ℕ) (table : List ℕ) (l : ℕ) (found : Found) (spot : Spot) (p n : ℕ) → spot ≡ spotOf lines frames omf pages table l found
     → spot ≡ Page p → 128 * pages ≤ n → 128 * p + 16 * (l % 8) + 16 ≤ n
 page-end lines frames omf pages table l found spot p n e d long = omega (arith, spot-below lines frames omf pages table l found p (sym e ∙ d))
-
--- The state after a use of a line, as the code has it.
-pub used-done : (s : State) (hint line frame : ℕ) (content : List ℕ) (k : Cache) → k ≡ placed (s .cache) line frame content
-    → record { lines = s .lines; frames = s .frames; pages = s .pages; cmf = s .cmf; omf = s .omf; tag = s .tag; hint = hint; cache = k }
-    ≡ usedState s hint (placed (s .cache) line frame content)
-unfolding usedState
-used-done s hint line frame content k e = ap (stateWith s (s .cmf) (s .omf) (s .tag) hint) e

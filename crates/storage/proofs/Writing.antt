@@ -63,7 +63,7 @@ or-false false = refl
 digits : (m l : ℕ) → m / 8 ≡ l / 8 → m % 8 ≡ l % 8 → m ≡ l
 digits m l d e = omega arith
 
-module _ (x : Storage) (q : WellStore x) (wd a v : ℕ) (p : Placed (settingsIn (x .state)) wd a) (b : lineOf a < x .state .lines) (hint page : ℕ) where
+module _ (x : Storage) (q : WellStore x) (wd a v : ℕ) (p : Placed (settingsIn (x .state)) wd a) (b : lineOf a < x .state .registers .lines) (hint page : ℕ) where
   abbrev l : ℕ
   l = lineOf a
 
@@ -83,15 +83,15 @@ module _ (x : Storage) (q : WellStore x) (wd a v : ℕ) (p : Placed (settingsIn 
 
     abbrev pub stored : Storage
     stored =
-        storageOf (usedState (x .state) hint (placed (x .state .cache) l (x .state .cmf) content)) (x .memory .archive) (withPageLine (x .memory .pool) page (l % 8) content)
-        (withWritten w (x .state .tag) l (n - 1)) (set (x .memory .table) (place x q l b) page) (set (x .memory .owners) page (place x q l b)) (x .memory .history)
+        storageOf (usedState (x .state) hint (placed (x .state .cache) l (x .state .registers .cmf) content)) (x .memory .archive) (withPageLine (x .memory .pool) page (l % 8) content)
+        (withWritten w (x .state .registers .tag) l (n - 1)) (set (x .memory .table) (place x q l b) page) (set (x .memory .owners) page (place x q l b)) (x .memory .history)
 
     whole : length content ≡ 16
     whole =
         let line = latest-line x q l b in
         length-edit wd (offsetOf a) v (latestIn x l) (subst (λ (m : ℕ). offsetOf a + wd ≤ m) (sym (line .long)) (in-line (widths wd (p .width)) a (p .aligned))) ∙ line .long
 
-    pool-long : 128 * x .state .pages ≤ length (x .memory .pool)
+    pool-long : 128 * x .state .registers .pages ≤ length (x .memory .pool)
     unfolding elements
     pool-long = lent-long x (q .long) .pool
 
@@ -101,36 +101,36 @@ module _ (x : Storage) (q : WellStore x) (wd a v : ℕ) (p : Placed (settingsIn 
     lengths : lengthsIn (stored .memory) ≡ lengthsIn (x .memory)
     lengths =
         ap₂ (λ (m g : ℕ). record { archive = length (x .memory .archive); pool = m; groups = g; table = length (set (x .memory .table) (place x q l b) page); owners = length (set (x .memory .owners) page (place x q l b)); history = length (x .memory .history) })
-        (length-written (x .memory .pool) content (128 * page + 16 * (l % 8)) (omega (arith, page-room)) whole) (written-long w (x .state .tag) l (n - 1))
+        (length-written (x .memory .pool) content (128 * page + 16 * (l % 8)) (omega (arith, page-room)) whole) (written-long w (x .state .registers .tag) l (n - 1))
         ∙ ap₂ (λ (t o : ℕ). record { archive = length (x .memory .archive); pool = length (x .memory .pool); groups = length (x .memory .groups); table = t; owners = o; history = length (x .memory .history) })
         (length-set (x .memory .table) (place x q l b) page) (length-set (x .memory .owners) page (place x q l b))
 
     asks : Asks w l (n - 1)
     asks = record { lent = q .bits .lent; line-below = b; index-below = omega (arith, lim .live-some, lim .live-most) }
 
-    bit-after : (i m : ℕ) → i < x .state .frames → m < x .state .lines → effective (writtenIn stored) i m ≡ (effective w i m || (eqb i (n - 1) && eqb m l))
+    bit-after : (i m : ℕ) → i < x .state .registers .frames → m < x .state .registers .lines → effective (writtenIn stored) i m ≡ (effective w i m || (eqb i (n - 1) && eqb m l))
     unfolding usedState
-    bit-after = set-effective w (x .state .tag) l (n - 1) asks (q .bits .tag-below) (q .bits .open-tag)
+    bit-after = set-effective w (x .state .registers .tag) l (n - 1) asks (q .bits .tag-below) (q .bits .open-tag)
 
     -- A version of another line or frame stays as it was.
     abbrev spot : (index line : ℕ) → ℕ
-    spot i m = placeAt w (frameAt (x .state .frames) (x .state .omf) i) (m / 8)
+    spot i m = placeAt w (frameAt (x .state .registers .frames) (x .state .registers .omf) i) (m / 8)
 
-    in-block : (m : ℕ) → m < x .state .lines → m / 8 < x .state .lines / 8
+    in-block : (m : ℕ) → m < x .state .registers .lines → m / 8 < x .state .registers .lines / 8
     in-block m d = omega (arith, asks-table x q l b .lines-by)
 
-    spot-same : (i m : ℕ) → i < n → m < x .state .lines → spot i m ≡ place x q l b → (i ≡ n - 1) × (m / 8 ≡ l / 8)
+    spot-same : (i m : ℕ) → i < n → m < x .state .registers .lines → spot i m ≡ place x q l b → (i ≡ n - 1) × (m / 8 ≡ l / 8)
     unfolding placeAt
     spot-same i m h d e =
         let omf = q .bits .lent .omf-below in
-        let frame : frameAt (x .state .frames) (x .state .omf) i ≡ frameAt (x .state .frames) (x .state .omf) (n - 1) =
-        sym (digits-div (frameAt (x .state .frames) (x .state .omf) i) (in-block m d)) ∙ (ap (λ (y : ℕ). y / (x .state .lines / 8)) e ∙ digits-div (frameAt (x .state .frames) (x .state .omf) (n - 1)) (in-block l b))
+        let frame : frameAt (x .state .registers .frames) (x .state .registers .omf) i ≡ frameAt (x .state .registers .frames) (x .state .registers .omf) (n - 1) =
+        sym (digits-div (frameAt (x .state .registers .frames) (x .state .registers .omf) i) (in-block m d)) ∙ (ap (λ (y : ℕ). y / (x .state .registers .lines / 8)) e ∙ digits-div (frameAt (x .state .registers .frames) (x .state .registers .omf) (n - 1)) (in-block l b))
         in (
-          sym (index-frame (x .state .frames) (x .state .omf) omf i (omega (arith, lim .live-most))) ∙ (ap (indexOf (x .state .frames) (x .state .omf)) frame ∙ index-frame (x .state .frames) (x .state .omf) omf (n - 1) (asks .index-below)),
-          sym (digits-mod (frameAt (x .state .frames) (x .state .omf) i) (in-block m d)) ∙ (ap (λ (y : ℕ). y % (x .state .lines / 8)) e ∙ digits-mod (frameAt (x .state .frames) (x .state .omf) (n - 1)) (in-block l b)),
+          sym (index-frame (x .state .registers .frames) (x .state .registers .omf) omf i (omega (arith, lim .live-most))) ∙ (ap (indexOf (x .state .registers .frames) (x .state .registers .omf)) frame ∙ index-frame (x .state .registers .frames) (x .state .registers .omf) omf (n - 1) (asks .index-below)),
+          sym (digits-mod (frameAt (x .state .registers .frames) (x .state .registers .omf) i) (in-block m d)) ∙ (ap (λ (y : ℕ). y % (x .state .registers .lines / 8)) e ∙ digits-mod (frameAt (x .state .registers .frames) (x .state .registers .omf) (n - 1)) (in-block l b)),
         )
 
-    spot-needed : (i m : ℕ) → i < n → m < x .state .lines → effective w i m ≡ true → neededAt w (spot i m) ≡ true
+    spot-needed : (i m : ℕ) → i < n → m < x .state .registers .lines → effective w i m ≡ true → neededAt w (spot i m) ≡ true
     spot-needed i m h d e = effective-needed w i m (q .bits .lent .omf-below) (omega (arith, lim .live-most)) (in-block m d) e
 
     abbrev old : (index line : ℕ) → ℕ
@@ -139,7 +139,7 @@ module _ (x : Storage) (q : WellStore x) (wd a v : ℕ) (p : Placed (settingsIn 
     table-room : place x q l b < length (x .memory .table)
     table-room = omega (arith, place-inside x q l b, asks-table x q l b .table-long)
 
-    version-after : (i m : ℕ) → i < n → m < x .state .lines → effective w i m ≡ true → (i ≡ n - 1 → m ≡ l → ⊥) → versionAt stored i m ≡ versionAt x i m
+    version-after : (i m : ℕ) → i < n → m < x .state .registers .lines → effective w i m ≡ true → (i ≡ n - 1 → m ≡ l → ⊥) → versionAt stored i m ≡ versionAt x i m
     unfolding versionAt usedState placeAt pageOf
     version-after i m h d e other = go (ℕ-discrete (spot i m) (place x q l b))
       where
@@ -154,7 +154,7 @@ module _ (x : Storage) (q : WellStore x) (wd a v : ℕ) (p : Placed (settingsIn 
         go (no s) =
             ap (λ (y : ℕ). pageLine (withPageLine (x .memory .pool) page (l % 8) content) y (m % 8)) (getD-set-other (x .memory .table) (place x q l b) (spot i m) page 0 s)
             ∙ page-other (x .memory .pool) content page (l % 8) (old i m) (m % 8) page-room whole (omega arith) (omega arith)
-            (λ t _. c .apart (spot i m) (place-within w (frameAt (x .state .frames) (x .state .omf) i) (m / 8) (frame-below (x .state .frames) (x .state .omf) (q .bits .lent .omf-below) i) (in-block m d)) (spot-needed i m h d e) s t)
+            (λ t _. c .apart (spot i m) (place-within w (frameAt (x .state .registers .frames) (x .state .registers .omf) i) (m / 8) (frame-below (x .state .registers .frames) (x .state .registers .omf) (q .bits .lent .omf-below) i) (in-block m d)) (spot-needed i m h d e) s t)
 
     -- The line written has its version in CMF,
     own-bit : effective (writtenIn stored) (n - 1) l ≡ true
@@ -178,7 +178,7 @@ module _ (x : Storage) (q : WellStore x) (wd a v : ℕ) (p : Placed (settingsIn 
         first = none-off (n - 1)
 
     -- and every other frame and line is as it was.
-    other-alike : (i m : ℕ) → i < n → m < x .state .lines → (i ≡ n - 1 → m ≡ l → ⊥) → AlikeAt stored x i i m
+    other-alike : (i m : ℕ) → i < n → m < x .state .registers .lines → (i ≡ n - 1 → m ≡ l → ⊥) → AlikeAt stored x i i m
     other-alike i m h d other =
         record {
           bit = bit-after i m (omega (arith, lim .live-most)) d ∙ (ap (λ (t : Bool). effective w i m || t) (off (ℕ-discrete i (n - 1)) (ℕ-discrete m l)) ∙ or-false (effective w i m));
@@ -230,11 +230,11 @@ module _ (x : Storage) (q : WellStore x) (wd a v : ℕ) (p : Placed (settingsIn 
     unfolding latestIn usedState
     own-latest = current-version n (λ j. frameIn stored j l) (archiveIn stored l) content (lim .live-some) own-frame
 
-    own-newest : newestFrame stored l ≡ x .state .cmf
+    own-newest : newestFrame stored l ≡ x .state .registers .cmf
     unfolding newestFrame frameNumber usedState isWritten
     own-newest =
         ap (frameNumber (stored .state)) (current-found n (λ j. isWritten (frameIn stored j l)) (lim .live-some) (ap isWritten own-frame))
-        ∙ (ap (frameAt (x .state .frames) (x .state .omf)) (none-off (n - 1)) ∙ cmf-frame x q l b)
+        ∙ (ap (frameAt (x .state .registers .frames) (x .state .registers .omf)) (none-off (n - 1)) ∙ cmf-frame x q l b)
 
     same-live : liveIn (stored .state) ≡ n
     unfolding usedState
@@ -249,16 +249,16 @@ module _ (x : Storage) (q : WellStore x) (wd a v : ℕ) (p : Placed (settingsIn 
       unfolding newestFrame
       other-newest =
           ap₂ (λ (k : ℕ) (row : ℕ → Option Line). frameNumber (stored .state) (foundIn k (λ j. isWritten (row j)))) same-live (fun-ext (λ j. other-frame j m (λ _ t. other t)))
-          ∙ used-number (x .state) hint (placed (x .state .cache) l (x .state .cmf) content) (foundIn n (λ j. isWritten (frameIn x j m)))
+          ∙ used-number (x .state) hint (placed (x .state .cache) l (x .state .registers .cmf) content) (foundIn n (λ j. isWritten (frameIn x j m)))
 
     stored-cache : shown (stored .state .cache) ≡ use-line l (shown (x .state .cache))
     unfolding usedState
-    stored-cache = placed-shown (x .state .cache) (q .sized) l (x .state .cmf) content whole
+    stored-cache = placed-shown (x .state .cache) (q .sized) l (x .state .registers .cmf) content whole
 
     stored-coherent : Coherent stored
     unfolding usedState
     stored-coherent =
-        placed-all (x .state .cache) (q .sized) l (x .state .cmf) content whole (Recent x) (Recent stored) (settingsIn (x .state)) (q .entries) (q .coherent) (sym own-latest, sym own-newest)
+        placed-all (x .state .cache) (q .sized) l (x .state .registers .cmf) content whole (Recent x) (Recent stored) (settingsIn (x .state)) (q .entries) (q .coherent) (sym own-latest, sym own-newest)
         (λ m g y other r. (r .0 ∙ sym (other-latest m other), r .1 ∙ sym (other-newest m other)))
 
     stored-well : WellStore stored
@@ -267,9 +267,9 @@ module _ (x : Storage) (q : WellStore x) (wd a v : ℕ) (p : Placed (settingsIn 
         record {
           fits = q .fits;
           long = subst (λ (r : Pieces). enough (settingsIn (x .state)) r ≡ true) (sym lengths) (q .long);
-          bits = set-keeps w (x .state .tag) n l (n - 1) (q .bits) asks (omega (arith, lim .live-some));
+          bits = set-keeps w (x .state .registers .tag) n l (n - 1) (q .bits) asks (omega (arith, lim .live-some));
           pages = c .confirmed;
-          sized = placed-sized (x .state .cache) (q .sized) l (x .state .cmf) content whole;
+          sized = placed-sized (x .state .cache) (q .sized) l (x .state .registers .cmf) content whole;
           version-line = step-versions stored _ _ stored-figure next-well;
           archive-line = step-archive stored _ _ stored-figure next-well;
           entries = subst (WellCache (settingsIn (x .state))) (sym stored-cache) (use-well (settingsIn (x .state)) l (shown (x .state .cache)) b (q .entries));

@@ -19,10 +19,12 @@ use Rattle.written.specs.Bits.{Written, writtenOf, effective}
 use Rattle.written.specs.Well.{WellBits}
 use Rattle.pages.specs.Lines.{pageLine, archiveLine}
 use Rattle.pages.specs.Table.{Confirmed, neededAt, placesOf}
+use Rattle.cache.specs.declared.Cache.{Cache}
 use Rattle.cache.specs.Entries.{Sized, All}
 use Rattle.cache.specs.Steps.{archiveFrame}
 use Rattle.cache.specs.Shown.{shown}
 use Rattle.versions.specs.Newest.{pageOf}
+use Rattle.storage.specs.declared.Registers.{Registers}
 use Rattle.storage.specs.declared.State.{State}
 
 -- The lent lists: "The archive is a lent memory of 16 × L bytes beside the pool of 128 × P bytes. All other lent memory ..".
@@ -46,17 +48,27 @@ memoryOf a p g t o h = record { archive = a; pool = p; groups = g; table = t; ow
 abbrev pub storageOf : State → (archive pool groups table owners history : List ℕ) → Storage
 storageOf s a p g t o h = record { state = s; memory = memoryOf a p g t o h }
 
+-- The state by its registers and its cache.
+abbrev pub stateOf : Registers → Cache → State
+stateOf r cache = record { registers = r; cache = cache }
+
 -- The settings that the state holds.
+abbrev pub settingsAt : Registers → Settings
+settingsAt r = record { lines = r .lines; frames = r .frames; pages = r .pages }
+
 abbrev pub settingsIn : State → Settings
-settingsIn s = record { lines = s .lines; frames = s .frames; pages = s .pages }
+settingsIn s = settingsAt (s .registers)
 
 -- The live frames, by CMF, OMF and F.
+abbrev pub liveAt : Registers → ℕ
+liveAt r = liveFrames (r .frames) (r .cmf) (r .omf)
+
 abbrev pub liveIn : State → ℕ
-liveIn s = liveFrames (s .frames) (s .cmf) (s .omf)
+liveIn s = liveAt (s .registers)
 
 -- The written bits and the rollback history, with what places them.
 abbrev pub writtenIn : Storage → Written
-writtenIn x = writtenOf (x .state .lines) (x .state .frames) (x .state .omf) (x .memory .groups) (x .memory .history)
+writtenIn x = writtenOf (x .state .registers .lines) (x .state .registers .frames) (x .state .registers .omf) (x .memory .groups) (x .memory .history)
 
 -- The lent lengths, in elements.
 abbrev pub lengthsIn : Memory → Pieces
@@ -89,17 +101,17 @@ indexBack s j = liveIn s - 1 - j
 -- A version in the pool: in its slot of the page that the table names for its frame and block.
 unfoldable pub versionAt : Storage → (index line : ℕ) → Line
 versionAt x i l =
-    pageLine (x .memory .pool) (pageOf (x .state .lines) (x .state .frames) (x .state .omf) (x .memory .table) i l) (l % 8)
+    pageLine (x .memory .pool) (pageOf (x .state .registers .lines) (x .state .registers .frames) (x .state .registers .omf) (x .memory .table) i l) (l % 8)
 
 -- Figure 2's frames: a line of a live frame is written if its bit is effective.
 unfoldable pub frameIn : Storage → (back line : ℕ) → Option Line
 frameIn x j l =
-    cond (ltb j (liveIn (x .state)) && (ltb l (x .state .lines) && effective (writtenIn x) (indexBack (x .state) j) l))
+    cond (ltb j (liveIn (x .state)) && (ltb l (x .state .registers .lines) && effective (writtenIn x) (indexBack (x .state) j) l))
     (some (versionAt x (indexBack (x .state) j) l)) none
 
 -- Figure 2's archive: its L lines, and nothing past them.
 unfoldable pub archiveIn : Storage → ℕ → Line
-archiveIn x l = cond (ltb l (x .state .lines)) (archiveLine (x .memory .archive) l) zeros
+archiveIn x l = cond (ltb l (x .state .registers .lines)) (archiveLine (x .memory .archive) l) zeros
 
 -- The most recent version of a line: Figure 2's search, from CMF back.
 unfoldable pub latestIn : Storage → ℕ → Line
@@ -109,7 +121,7 @@ latestIn x l = versionIn (liveIn (x .state)) (λ j. frameIn x j l) (archiveIn x 
 -- does not matter.)
 unfoldable pub frameNumber : State → call.Origin → ℕ
 frameNumber s from-cache = archiveFrame
-frameNumber s (from-frame j) = frameAt (s .frames) (s .omf) (indexBack s j)
+frameNumber s (from-frame j) = frameAt (s .registers .frames) (s .registers .omf) (indexBack s j)
 frameNumber s from-archive = archiveFrame
 
 -- The number of the frame that has a line's most recent version.
@@ -126,15 +138,15 @@ Coherent x = All (Recent x) (x .state .cache)
 -- Well-formedness, which CHECK decides.
 pub record WellStore (x : Storage) : Type 0 where
   -- the state is within its limits and the lent memory is long enough: else every call but RESET is refused
-  pub fits : stateFits (settingsIn (x .state)) (x .state .cmf) (x .state .omf) ≡ true
+  pub fits : stateFits (settingsIn (x .state)) (x .state .registers .cmf) (x .state .registers .omf) ≡ true
   pub long : enough (settingsIn (x .state)) (lengthsIn (x .memory)) ≡ true
   -- every stored bit has a tag that the history knows, and only live frames have effective ones: else a frame could open with lines that
   -- were taken back
-  pub bits : WellBits (writtenIn x) (x .state .tag) (liveIn (x .state))
+  pub bits : WellBits (writtenIn x) (x .state .registers .tag) (liveIn (x .state))
   -- every needed place has its page, one of the P, and the page knows it: else a line's bytes would lie outside the pool, or two lines
   -- would share them
   pub pages :
-      Confirmed (neededAt (writtenIn x)) (placesOf (writtenIn x)) (x .state .pages) (λ y. getD (x .memory .table) y 0)
+      Confirmed (neededAt (writtenIn x)) (placesOf (writtenIn x)) (x .state .registers .pages) (λ y. getD (x .memory .table) y 0)
       (λ p. getD (x .memory .owners) p 0)
   -- the cache's arrays are as long as their type has it: else an entry could stand outside the 16 sets
   pub sized : Sized (x .state .cache)
@@ -152,8 +164,8 @@ store =
     record {
       Storage = Storage;
       settings = λ x. settingsIn (x .state);
-      cmf = λ x. x .state .cmf;
-      omf = λ x. x .state .omf;
+      cmf = λ x. x .state .registers .cmf;
+      omf = λ x. x .state .registers .omf;
       lengths = λ x. lengthsIn (x .memory);
       Rest = Memory;
       past = λ n x. pastIn n (x .memory);

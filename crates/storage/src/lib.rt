@@ -7,12 +7,12 @@ ghost use Prim.Native.Nat.{_^_};
 ghost use lib.Dec.{ltb};
 ghost use Rattle.rules.specs.Sizing.{settingsOf};
 ghost use Rattle.rules.specs.Refusal.{unless, isWidth, askedRefusal, lineRefusal, markedRefusal, placeRefusal, writeRefusal};
-ghost use Rattle.storage.specs.Storage.{settingsIn, liveIn, memoryOf, lengthsIn};
+ghost use Rattle.storage.specs.Storage.{settingsAt, liveAt, memoryOf, lengthsIn};
 ghost use Rattle.storage.specs.Admit.{piecesOf, inElements, covers, admitted};
 
-// The state goes in by value and comes back by value. It may hold anything: each call tests it first.
+// The settings L, F and P, the registers CMF and OMF, the tag that a write gives, and where the search for a page starts.
 #[repr(C)]
-pub struct State {
+pub struct Registers {
     pub lines: u32,
     pub frames: u32,
     pub pages: u32,
@@ -20,7 +20,21 @@ pub struct State {
     pub omf: u32,
     pub tag: u32,
     pub hint: u32,
+}
+
+// The state may hold anything: each call tests it first. Programs pass it by value; the calls themselves take the registers by value and
+// the cache's arrays where they lie.
+#[repr(C)]
+pub struct State {
+    pub registers: Registers,
     pub cache: Cache,
+}
+
+// The registers after a call, and its refusal or 0.
+#[repr(C)]
+pub struct Step {
+    pub registers: Registers,
+    pub refusal: u32,
 }
 
 // The state after a call, and its refusal or 0.
@@ -101,16 +115,16 @@ pub fn asked_refusal(lines: u32, frames: u32, pages: u32, lengths: Lengths) -> u
 }
 
 // 5 and 6, which every call but RESET tests first.
-pub fn admit(state: State, lengths: Lengths) -> u32
-    ensures { λ r. ⌜ r ≡ admitted (settingsOf (state .lines) (state .frames) (state .pages)) (state .cmf) (state .omf) (piecesOf lengths) 0 ⌝ }
+pub fn admit(registers: Registers, lengths: Lengths) -> u32
+    ensures { λ r. ⌜ r ≡ admitted (settingsOf (registers .lines) (registers .frames) (registers .pages)) (registers .cmf) (registers .omf) (piecesOf lengths) 0 ⌝ }
 {
-    if state.frames <= state.cmf {
+    if registers.frames <= registers.cmf {
         return 5;
     }
-    if state.frames <= state.omf {
+    if registers.frames <= registers.omf {
         return 5;
     }
-    let refusal = asked_refusal(state.lines, state.frames, state.pages, lengths);
+    let refusal = asked_refusal(registers.lines, registers.frames, registers.pages, lengths);
     if refusal == 4 {
         return 5;
     }
@@ -118,45 +132,45 @@ pub fn admit(state: State, lengths: Lengths) -> u32
 }
 
 // 5, 6 and 9: the tests of LINE and its companion.
-pub fn admit_line(state: State, lengths: Lengths, line: u32) -> u32
-    ensures { λ r. ⌜ r ≡ admitted (settingsIn state) (state .cmf) (state .omf) (piecesOf lengths) (lineRefusal (settingsIn state) line) ⌝ }
+pub fn admit_line(registers: Registers, lengths: Lengths, line: u32) -> u32
+    ensures { λ r. ⌜ r ≡ admitted (settingsAt registers) (registers .cmf) (registers .omf) (piecesOf lengths) (lineRefusal (settingsAt registers) line) ⌝ }
 {
-    let refusal = admit(state, lengths);
+    let refusal = admit(registers, lengths);
     if refusal != 0 {
         return refusal;
     }
-    if line < state.lines {
+    if line < registers.lines {
         return 0;
     }
     9
 }
 
 // 5, 6 and 12: the tests of MARK.
-pub fn admit_mark(state: State, lengths: Lengths) -> u32
-    ensures { λ r. ⌜ r ≡ admitted (settingsIn state) (state .cmf) (state .omf) (piecesOf lengths) (unless (ltb (liveIn state) (state .frames)) 12 0) ⌝ }
+pub fn admit_mark(registers: Registers, lengths: Lengths) -> u32
+    ensures { λ r. ⌜ r ≡ admitted (settingsAt registers) (registers .cmf) (registers .omf) (piecesOf lengths) (unless (ltb (liveAt registers) (registers .frames)) 12 0) ⌝ }
 {
-    let refusal = admit(state, lengths);
+    let refusal = admit(registers, lengths);
     if refusal != 0 {
         return refusal;
     }
-    if state.frames <= frames::live(state.cmf, state.omf, state.frames) {
+    if registers.frames <= frames::live(registers.cmf, registers.omf, registers.frames) {
         return 12;
     }
     0
 }
 
 // 5, 6 and 11: the tests of ROLLBACK and ADVANCE.
-pub fn admit_frames(state: State, lengths: Lengths, k: u32) -> u32
-    ensures { λ r. ⌜ r ≡ admitted (settingsIn state) (state .cmf) (state .omf) (piecesOf lengths) (markedRefusal (liveIn state) k) ⌝ }
+pub fn admit_frames(registers: Registers, lengths: Lengths, k: u32) -> u32
+    ensures { λ r. ⌜ r ≡ admitted (settingsAt registers) (registers .cmf) (registers .omf) (piecesOf lengths) (markedRefusal (liveAt registers) k) ⌝ }
 {
-    let refusal = admit(state, lengths);
+    let refusal = admit(registers, lengths);
     if refusal != 0 {
         return refusal;
     }
     if k == 0 {
         return 11;
     }
-    if k < frames::live(state.cmf, state.omf, state.frames) {
+    if k < frames::live(registers.cmf, registers.omf, registers.frames) {
         return 0;
     }
     11
@@ -179,10 +193,10 @@ fn is_width(width: u32) -> bool
 }
 
 // 5 to 9: the tests of READ. The address may be any number: nothing is added to it.
-pub fn admit_place(state: State, lengths: Lengths, width: u32, address: u32) -> u32
-    ensures { λ r. ⌜ r ≡ admitted (settingsIn state) (state .cmf) (state .omf) (piecesOf lengths) (placeRefusal (settingsIn state) width address 0) ⌝ }
+pub fn admit_place(registers: Registers, lengths: Lengths, width: u32, address: u32) -> u32
+    ensures { λ r. ⌜ r ≡ admitted (settingsAt registers) (registers .cmf) (registers .omf) (piecesOf lengths) (placeRefusal (settingsAt registers) width address 0) ⌝ }
 {
-    let refusal = admit(state, lengths);
+    let refusal = admit(registers, lengths);
     if refusal != 0 {
         return refusal;
     }
@@ -192,7 +206,7 @@ pub fn admit_place(state: State, lengths: Lengths, width: u32, address: u32) -> 
     if address % width != 0 {
         return 8;
     }
-    if 16 * state.lines - width < address {
+    if 16 * registers.lines - width < address {
         return 9;
     }
     0
@@ -219,10 +233,16 @@ fn is_value(width: u32, value: u32) -> bool
 }
 
 // 5 to 10: the tests of WRITE that come before 13.
-pub fn admit_write(state: State, lengths: Lengths, width: u32, address: u32, value: u32) -> u32
-    ensures { λ r. ⌜ r ≡ admitted (settingsIn state) (state .cmf) (state .omf) (piecesOf lengths) (writeRefusal (settingsIn state) width address value 0) ⌝ }
+pub fn admit_write(
+    registers: Registers,
+    lengths: Lengths,
+    width: u32,
+    address: u32,
+    value: u32,
+) -> u32
+    ensures { λ r. ⌜ r ≡ admitted (settingsAt registers) (registers .cmf) (registers .omf) (piecesOf lengths) (writeRefusal (settingsAt registers) width address value 0) ⌝ }
 {
-    let refusal = admit_place(state, lengths, width, address);
+    let refusal = admit_place(registers, lengths, width, address);
     if refusal != 0 {
         return refusal;
     }

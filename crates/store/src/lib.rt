@@ -1,31 +1,31 @@
-// The store: every call of document 01, in memory that the caller lends.
-pub use access::Reading;
-pub use access::line;
-pub use access::line_refusal;
-pub use access::read;
-pub use access::write;
+// The store: every call of document 01, in memory that the caller lends, on a state that goes in and comes back by value. RESET and CHECK are
+// done here; the other calls are those of `access` and `marks`, which take the cache's arrays where they lie.
 use cache::Cache;
+pub use marks::Counted;
 pub use rules::Need;
 pub use rules::sizes;
 pub use storage::Outcome;
+pub use storage::Registers;
 pub use storage::State;
+pub use storage::Step;
 pub use versions::Origin;
 ghost use mathlib.Core.Path.{_≡_};
-ghost use Rattle.rules.specs.Call.Answer.{counting, verdict};
-ghost use Rattle.rules.specs.Call.Call.{COUNTS, CHECK};
+ghost use Rattle.rules.specs.Call.Answer.{outcome, lending, counting, verdict};
+ghost use Rattle.rules.specs.Call.Call.{LINE, LINE-REFUSAL, COUNTS, CHECK};
 ghost use Rattle.rules.specs.Promise.{Promise};
+ghost use Rattle.versions.specs.Newest.{originOf};
 ghost use Rattle.wellformed.specs.Decision.{Decides};
 ghost use Rattle.storage.specs.Storage.{settingsIn, memoryOf, lengthsIn, storageOf, WellStore, store};
 ghost use Rattle.storage.specs.Admit.{admitted};
-ghost use Rattle.storage.specs.Steps.{freshState, stateWith};
-ghost use Rattle.storage.specs.Contracts.{Resets, Marks, RollsBack, Advances};
+ghost use Rattle.storage.specs.Steps.{freshState};
+ghost use Rattle.storage.specs.Contracts.{Resets, Writes, Reads, Marks, RollsBack, Advances};
 
-// The live frames and the pages needed, with the refusal or 0.
-#[repr(C)]
-pub struct Counted {
+// The value of a read and its origin, with the refusal or 0.
+pub struct Reading {
+    pub state: State,
     pub refusal: u32,
-    pub live: u32,
-    pub pages: u32,
+    pub value: u32,
+    pub origin: Origin,
 }
 
 // CHECK's answer, with the refusal or 0.
@@ -45,7 +45,7 @@ pub fn blank() -> State
 fn fresh(lines: u32, frames: u32, pages: u32) -> State
     ensures { λ r. ⌜ r ≡ freshState lines frames pages ⌝ }
 {
-    State {
+    let registers = Registers {
         lines,
         frames,
         pages,
@@ -53,23 +53,10 @@ fn fresh(lines: u32, frames: u32, pages: u32) -> State
         omf: 0,
         tag: 0,
         hint: 0,
-        cache: cache::empty(),
-    }
-}
-
-// The state with other registers, tag, hint and cache.
-fn state_with(state: State, cmf: u32, omf: u32, tag: u32, hint: u32, cache: Cache) -> State
-    ensures { λ r. ⌜ r ≡ stateWith state cmf omf tag hint cache ⌝ }
-{
+    };
     State {
-        lines: state.lines,
-        frames: state.frames,
-        pages: state.pages,
-        cmf,
-        omf,
-        tag,
-        hint,
-        cache,
+        registers,
+        cache: cache::empty(),
     }
 }
 
@@ -104,9 +91,182 @@ pub fn reset(
     }
 }
 
-// MARK: opens the next frame. Nothing is copied and nothing cleared.
+// WRITE.
+pub fn write(
+    state: State,
+    archive: &[u8],
+    pool: &mut [u8],
+    groups: &mut [u32],
+    table: &mut [u16],
+    owners: &mut [u32],
+    history: &[u16],
+    width: u32,
+    address: u32,
+    value: u32,
+) -> Outcome
+    ensures { λ r. ⌜ Writes
+        (storageOf state (now (archive .entry)) (now (pool .entry)) (now (groups .entry)) (now (table .entry)) (now (owners .entry)) (now (history .entry)))
+        width address value (r .refusal)
+        (storageOf (r .state) (now (archive .entry)) (now (pool .exit)) (now (groups .exit)) (now (table .exit)) (now (owners .exit)) (now (history .entry))) ⌝ }
+{
+    let cache = state.cache;
+    let mut held = cache.lines;
+    let mut origins = cache.frames;
+    let mut valid = cache.valid;
+    let mut bytes = cache.bytes;
+    let mut last = cache.last;
+    let step = access::write(
+        state.registers,
+        &mut held,
+        &mut origins,
+        &mut valid,
+        &mut bytes,
+        &mut last,
+        archive,
+        pool,
+        groups,
+        table,
+        owners,
+        history,
+        width,
+        address,
+        value,
+    );
+    let registers = step.registers;
+    let after = Cache {
+        lines: held,
+        frames: origins,
+        valid,
+        bytes,
+        last,
+    };
+    Outcome {
+        state: State {
+            registers,
+            cache: after,
+        },
+        refusal: step.refusal,
+    }
+}
+
+// READ.
+pub fn read(
+    state: State,
+    archive: &[u8],
+    pool: &[u8],
+    groups: &[u32],
+    table: &[u16],
+    owners: &[u32],
+    history: &[u16],
+    width: u32,
+    address: u32,
+) -> Reading
+    ensures { λ r. ⌜ Reads
+        (storageOf state (now (archive .entry)) (now (pool .entry)) (now (groups .entry)) (now (table .entry)) (now (owners .entry)) (now (history .entry)))
+        width address (r .refusal) (r .value) (originOf (r .origin))
+        (storageOf (r .state) (now (archive .entry)) (now (pool .entry)) (now (groups .entry)) (now (table .entry)) (now (owners .entry)) (now (history .entry))) ⌝ }
+{
+    let cache = state.cache;
+    let mut held = cache.lines;
+    let mut origins = cache.frames;
+    let mut valid = cache.valid;
+    let mut bytes = cache.bytes;
+    let mut last = cache.last;
+    let reading = access::read(
+        state.registers,
+        &mut held,
+        &mut origins,
+        &mut valid,
+        &mut bytes,
+        &mut last,
+        archive,
+        pool,
+        groups,
+        table,
+        owners,
+        history,
+        width,
+        address,
+    );
+    let registers = state.registers;
+    let after = Cache {
+        lines: held,
+        frames: origins,
+        valid,
+        bytes,
+        last,
+    };
+    let origin = reading.origin;
+    Reading {
+        state: State {
+            registers,
+            cache: after,
+        },
+        refusal: reading.refusal,
+        value: reading.value,
+        origin,
+    }
+}
+
+// LINE.
+pub fn line<'a>(
+    state: State,
+    archive: &'a [u8],
+    pool: &'a [u8],
+    groups: &[u32],
+    table: &[u16],
+    owners: &[u32],
+    history: &[u16],
+    line: u32,
+) -> &'a [u8]
+    ensures { λ r. ⌜ Promise store (LINE line)
+        (storageOf state (now (archive .entry)) (now (pool .entry)) (now (groups .entry)) (now (table .entry)) (now (owners .entry)) (now (history .entry)))
+        (lending (now r))
+        (storageOf state (now (archive .entry)) (now (pool .entry)) (now (groups .entry)) (now (table .entry)) (now (owners .entry)) (now (history .entry))) ⌝ }
+{
+    access::line(
+        state.registers,
+        archive,
+        pool,
+        groups,
+        table,
+        owners,
+        history,
+        line,
+    )
+}
+
+// LINE's companion.
+pub fn line_refusal(
+    state: State,
+    archive: &[u8],
+    pool: &[u8],
+    groups: &[u32],
+    table: &[u16],
+    owners: &[u32],
+    history: &[u16],
+    line: u32,
+) -> u32
+    ensures { λ r. ⌜ Promise store (LINE-REFUSAL line)
+        (storageOf state (now (archive .entry)) (now (pool .entry)) (now (groups .entry)) (now (table .entry)) (now (owners .entry)) (now (history .entry)))
+        (outcome r)
+        (storageOf state (now (archive .entry)) (now (pool .entry)) (now (groups .entry)) (now (table .entry)) (now (owners .entry)) (now (history .entry))) ⌝ }
+{
+    access::line_refusal(
+        state.registers,
+        archive,
+        pool,
+        groups,
+        table,
+        owners,
+        history,
+        line,
+    )
+}
+
+// MARK.
 pub fn mark(
-    mut state: State,
+    state: State,
     archive: &[u8],
     pool: &[u8],
     groups: &[u32],
@@ -119,18 +279,24 @@ pub fn mark(
         (r .refusal)
         (storageOf (r .state) (now (archive .entry)) (now (pool .entry)) (now (groups .entry)) (now (table .entry)) (now (owners .entry)) (now (history .entry))) ⌝ }
 {
-    let lengths = storage::measure(archive, pool, groups, table, owners, history);
-    let refusal = storage::admit_mark(state, lengths);
-    if refusal != 0 {
-        return Outcome { state, refusal };
+    let step = marks::mark(
+        state.registers,
+        archive,
+        pool,
+        groups,
+        table,
+        owners,
+        history,
+    );
+    let registers = step.registers;
+    let cache = state.cache;
+    Outcome {
+        state: State { registers, cache },
+        refusal: step.refusal,
     }
-    let next = (state.cmf + 1) % state.frames;
-    state.cmf = next;
-    Outcome { state, refusal: 0 }
 }
 
-// ROLLBACK: drops the k newest frames. No written bit is cleared, but for the sweep when the tags run out: the history masks them, and no
-// bit has the next tag.
+// ROLLBACK.
 pub fn rollback(
     state: State,
     archive: &[u8],
@@ -146,31 +312,30 @@ pub fn rollback(
         k (r .refusal)
         (storageOf (r .state) (now (archive .entry)) (now (pool .entry)) (now (groups .exit)) (now (table .entry)) (now (owners .entry)) (now (history .exit))) ⌝ }
 {
-    let lengths = storage::measure(archive, pool, groups, table, owners, history);
-    let refusal = storage::admit_frames(state, lengths, k);
-    if refusal != 0 {
-        return Outcome { state, refusal };
-    }
-    let kept = frames::live(state.cmf, state.omf, state.frames) - k;
-    let tag = written::rollback(
+    let mut cache = state.cache;
+    let origins = cache.frames;
+    let mut valid = cache.valid;
+    let step = marks::rollback(
+        state.registers,
+        &origins,
+        &mut valid,
+        archive,
+        pool,
         groups,
+        table,
+        owners,
         history,
-        state.lines,
-        state.frames,
-        state.omf,
-        state.tag % 256,
-        kept as u16,
+        k,
     );
-    let held = state.cache;
-    let cmf = (state.cmf + state.frames - k) % state.frames;
-    let cache = cache::forget(held, state.omf, state.frames, kept);
+    cache.valid = valid;
+    let registers = step.registers;
     Outcome {
-        state: state_with(state, cmf, state.omf, tag, state.hint, cache),
-        refusal: 0,
+        state: State { registers, cache },
+        refusal: step.refusal,
     }
 }
 
-// ADVANCE: folds the k oldest frames into the archive and frees them.
+// ADVANCE.
 pub fn advance(
     state: State,
     archive: &mut [u8],
@@ -186,41 +351,28 @@ pub fn advance(
         k (r .refusal)
         (storageOf (r .state) (now (archive .exit)) (now (pool .entry)) (now (groups .exit)) (now (table .entry)) (now (owners .entry)) (now (history .exit))) ⌝ }
 {
-    let lengths = storage::measure(archive, pool, groups, table, owners, history);
-    let refusal = storage::admit_frames(state, lengths, k);
-    if refusal != 0 {
-        return Outcome { state, refusal };
-    }
-    versions::fold(
+    let mut cache = state.cache;
+    let mut origins = cache.frames;
+    let step = marks::advance(
+        state.registers,
+        &mut origins,
         archive,
         pool,
         groups,
         table,
+        owners,
         history,
-        state.lines,
-        state.frames,
-        state.omf,
-        state.pages,
         k,
     );
-    written::advance(
-        groups,
-        history,
-        state.lines,
-        state.frames,
-        state.omf,
-        k as u16,
-    );
-    let held = state.cache;
-    let omf = (state.omf + k) % state.frames;
-    let cache = cache::collect(held, state.omf, state.frames, k);
+    cache.frames = origins;
+    let registers = step.registers;
     Outcome {
-        state: state_with(state, state.cmf, omf, state.tag, state.hint, cache),
-        refusal: 0,
+        state: State { registers, cache },
+        refusal: step.refusal,
     }
 }
 
-// COUNTS: the pages needed are those held, which their owners confirm.
+// COUNTS.
 pub fn counts(
     state: State,
     archive: &[u8],
@@ -235,31 +387,15 @@ pub fn counts(
         (counting (r .refusal) (r .live) (r .pages))
         (storageOf state (now (archive .entry)) (now (pool .entry)) (now (groups .entry)) (now (table .entry)) (now (owners .entry)) (now (history .entry))) ⌝ }
 {
-    let lengths = storage::measure(archive, pool, groups, table, owners, history);
-    let refusal = storage::admit(state, lengths);
-    if refusal != 0 {
-        return Counted {
-            refusal,
-            live: 0,
-            pages: 0,
-        };
-    }
-    let live = frames::live(state.cmf, state.omf, state.frames);
-    let held = pages::table::count_held(
+    marks::counts(
+        state.registers,
+        archive,
+        pool,
         groups,
-        history,
         table,
         owners,
-        state.lines,
-        state.frames,
-        state.omf,
-        state.pages,
-    );
-    Counted {
-        refusal: 0,
-        live,
-        pages: held,
-    }
+        history,
+    )
 }
 
 // Whether admitted storage is well-formed.
@@ -272,15 +408,23 @@ fn is_well(
     owners: &[u32],
     history: &[u16],
 ) -> bool
-    requires { ⌜ admitted (settingsIn state) (state .cmf) (state .omf) (lengthsIn (memoryOf (now archive) (now pool) (now groups) (now table) (now owners) (now history))) 0 ≡ 0 ⌝ }
+    requires { ⌜ admitted (settingsIn state) (state .registers .cmf) (state .registers .omf) (lengthsIn (memoryOf (now archive) (now pool) (now groups) (now table) (now owners) (now history))) 0 ≡ 0 ⌝ }
     ensures { λ r. ⌜ Decides r (WellStore (storageOf state (now (archive .entry)) (now (pool .entry)) (now (groups .entry)) (now (table .entry)) (now (owners .entry)) (now (history .entry)))) ⌝ }
 {
-    let lines = state.lines;
-    let frames = state.frames;
-    let omf = state.omf;
-    let pages = state.pages;
-    let live = frames::live(state.cmf, omf, frames);
-    if !wellformed::bits(groups, history, lines, frames, omf, state.tag, live) {
+    let lines = state.registers.lines;
+    let frames = state.registers.frames;
+    let omf = state.registers.omf;
+    let pages = state.registers.pages;
+    let live = frames::live(state.registers.cmf, omf, frames);
+    if !wellformed::bits(
+        groups,
+        history,
+        lines,
+        frames,
+        omf,
+        state.registers.tag,
+        live,
+    ) {
         return false;
     }
     if !wellformed::confirmed(groups, history, table, owners, lines, frames, omf, pages) {
@@ -322,7 +466,7 @@ pub fn check(
         (storageOf state (now (archive .entry)) (now (pool .entry)) (now (groups .entry)) (now (table .entry)) (now (owners .entry)) (now (history .entry))) ⌝ }
 {
     let lengths = storage::measure(archive, pool, groups, table, owners, history);
-    let refusal = storage::admit(state, lengths);
+    let refusal = storage::admit(state.registers, lengths);
     if refusal != 0 {
         return Verdict {
             refusal,

@@ -9,8 +9,9 @@ use Rattle.rules.specs.Call.{Origin}
 use Rattle.rules.specs.Call.Origin.{from-cache, from-frame, from-archive}
 use Rattle.rules.specs.Call.Answer.{outcome, lending, verdict}
 use Rattle.rules.specs.Call.Call.{LINE, LINE-REFUSAL, CHECK}
-use Rattle.store.specs.Shown.{Kept, Promises}
-use Rattle.storage.specs.Contracts.{Reads}
+use Rattle.storage.specs.declared.Registers.{Registers}
+use Rattle.storage.specs.Contracts.{Reads, Looks}
+use Rattle.store.specs.Shown.{Lent, Kept, Promises}
 
 -- "Origin is the cache, or a frame given by how many marks back it lies (0 is CMF), or the archive."
 unfoldable pub originNumber : Origin → ℕ
@@ -36,10 +37,10 @@ copied part bytes = cond (eqb (length part) 16) part bytes
 
 -- LINE: "lends back the 16 bytes of the line's most recent version", whose bytes are copied, with its companion's refusal. "A refused LINE
 -- lends an empty part".
-pub record CopiesLine (x : Kept) (line refusal : ℕ) (before after : List ℕ) : Type 0 where
+pub record CopiesLine (r : Registers) (m : Lent) (line refusal : ℕ) (before after : List ℕ) : Type 0 where
   pub part : List ℕ
-  pub lends : Promises (LINE line) x (lending part) x
-  pub companion : Promises (LINE-REFUSAL line) x (outcome refusal) x
+  pub lends : Looks (LINE line) r m (lending part)
+  pub companion : Looks (LINE-REFUSAL line) r m (outcome refusal)
   pub bytes-is : after ≡ copied part before
 
 -- CHECK: yes is 1, no is 0.

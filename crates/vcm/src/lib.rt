@@ -1,19 +1,23 @@
-// The store's calls exported to C and Rust: the static library of this crate defines each under its plain name, and include/vcm.h
-// declares them. State and results cross by value, a lent piece as its address and its count of elements. No struct that crosses
-// has a bool or an enum, so that every byte that a caller may hand over is a value.
+// The calls exported to C and Rust: the static library of this crate defines each under its plain name. include/vcm.h declares them, with
+// an inline function for each that takes a pointer to the state and one to the memory. A lent piece crosses as its address and its
+// count of elements, the registers by value, the cache's arrays where they lie; RESET and CHECK, which go over the whole store, take the
+// state by value. No struct that crosses has a bool or an enum, so that every byte that a caller may hand over is a value.
 use store::Counted;
 use store::Need;
 use store::Origin;
 use store::Outcome;
+use store::Registers;
 use store::State;
+use store::Step;
 ghost use mathlib.Core.Path.{_≡_};
 ghost use Rattle.rules.specs.Sizing.{settingsOf, sizing};
 ghost use Rattle.rules.specs.Call.Answer.{outcome, counting};
 ghost use Rattle.rules.specs.Call.Call.{LINE-REFUSAL, COUNTS};
-ghost use Rattle.storage.specs.Storage.{storageOf};
+ghost use Rattle.cache.specs.Entries.{cacheOf};
+ghost use Rattle.storage.specs.Storage.{memoryOf, stateOf, storageOf};
 ghost use Rattle.storage.specs.Steps.{freshState};
-ghost use Rattle.store.specs.Shown.{Promises, shownOrigin};
-ghost use Rattle.storage.specs.Contracts.{Resets, Writes, Marks, RollsBack, Advances};
+ghost use Rattle.store.specs.Shown.{shownOrigin};
+ghost use Rattle.storage.specs.Contracts.{Resets, Writes, Looks, MarksIn, RollsBackIn, AdvancesIn};
 ghost use Rattle.vcm.specs.Numbers.{originNumber, marksBack, ReadsAs, copied, CopiesLine, ChecksAs};
 
 // An origin as a number. Marks back are 0 but for a frame's.
@@ -26,7 +30,6 @@ pub const CACHE: u32 = 2;
 // The value of a read and its origin, with the refusal or 0.
 #[repr(C)]
 pub struct Reading {
-    pub state: State,
     pub refusal: u32,
     pub value: u32,
     pub origin: u32,
@@ -91,7 +94,7 @@ fn copy_line(part: &[u8], bytes: &mut [u8; 16])
 
 // RESET: writes archive, groups and history.
 #[no_mangle]
-pub extern "C" fn vcm_reset(
+pub extern "C" fn vcm_raw_reset(
     state: State,
     archive: &mut [u8],
     pool: &[u8],
@@ -122,10 +125,15 @@ pub extern "C" fn vcm_reset(
     )
 }
 
-// WRITE: writes pool, groups, table and owners.
+// WRITE: writes the cache, pool, groups, table and owners.
 #[no_mangle]
-pub extern "C" fn vcm_write(
-    state: State,
+pub extern "C" fn vcm_raw_write(
+    registers: Registers,
+    held: &mut [u32; 32],
+    origins: &mut [u16; 32],
+    valid: &mut [u8; 32],
+    bytes: &mut [u8; 512],
+    last: &mut [u8; 16],
     archive: &[u8],
     pool: &mut [u8],
     groups: &mut [u32],
@@ -135,14 +143,19 @@ pub extern "C" fn vcm_write(
     width: u32,
     address: u32,
     value: u32,
-) -> Outcome
+) -> Step
     ensures { λ r. ⌜ Writes
-        (storageOf state (now (archive .entry)) (now (pool .entry)) (now (groups .entry)) (now (table .entry)) (now (owners .entry)) (now (history .entry)))
+        (storageOf (stateOf registers (cacheOf (now (held .entry)) (now (origins .entry)) (now (valid .entry)) (now (bytes .entry)) (now (last .entry)))) (now (archive .entry)) (now (pool .entry)) (now (groups .entry)) (now (table .entry)) (now (owners .entry)) (now (history .entry)))
         width address value (r .refusal)
-        (storageOf (r .state) (now (archive .entry)) (now (pool .exit)) (now (groups .exit)) (now (table .exit)) (now (owners .exit)) (now (history .entry))) ⌝ }
+        (storageOf (stateOf (r .registers) (cacheOf (now (held .exit)) (now (origins .exit)) (now (valid .exit)) (now (bytes .exit)) (now (last .exit)))) (now (archive .entry)) (now (pool .exit)) (now (groups .exit)) (now (table .exit)) (now (owners .exit)) (now (history .entry))) ⌝ }
 {
-    store::write(
-        state,
+    access::write(
+        registers,
+        held,
+        origins,
+        valid,
+        bytes,
+        last,
         archive,
         pool,
         groups,
@@ -155,10 +168,15 @@ pub extern "C" fn vcm_write(
     )
 }
 
-// READ: writes nothing lent; the cache in the state moves.
+// READ: writes the cache.
 #[no_mangle]
-pub extern "C" fn vcm_read(
-    state: State,
+pub extern "C" fn vcm_raw_read(
+    registers: Registers,
+    held: &mut [u32; 32],
+    origins: &mut [u16; 32],
+    valid: &mut [u8; 32],
+    bytes: &mut [u8; 512],
+    last: &mut [u8; 16],
     archive: &[u8],
     pool: &[u8],
     groups: &[u32],
@@ -169,12 +187,17 @@ pub extern "C" fn vcm_read(
     address: u32,
 ) -> Reading
     ensures { λ r. ⌜ ReadsAs
-        (storageOf state (now (archive .entry)) (now (pool .entry)) (now (groups .entry)) (now (table .entry)) (now (owners .entry)) (now (history .entry)))
+        (storageOf (stateOf registers (cacheOf (now (held .entry)) (now (origins .entry)) (now (valid .entry)) (now (bytes .entry)) (now (last .entry)))) (now (archive .entry)) (now (pool .entry)) (now (groups .entry)) (now (table .entry)) (now (owners .entry)) (now (history .entry)))
         width address (r .refusal) (r .value) (r .origin) (r .«marks_back»)
-        (storageOf (r .state) (now (archive .entry)) (now (pool .entry)) (now (groups .entry)) (now (table .entry)) (now (owners .entry)) (now (history .entry))) ⌝ }
+        (storageOf (stateOf registers (cacheOf (now (held .exit)) (now (origins .exit)) (now (valid .exit)) (now (bytes .exit)) (now (last .exit)))) (now (archive .entry)) (now (pool .entry)) (now (groups .entry)) (now (table .entry)) (now (owners .entry)) (now (history .entry))) ⌝ }
 {
-    let r = store::read(
-        state,
+    let r = access::read(
+        registers,
+        held,
+        origins,
+        valid,
+        bytes,
+        last,
         archive,
         pool,
         groups,
@@ -184,10 +207,8 @@ pub extern "C" fn vcm_read(
         width,
         address,
     );
-    let next = r.state;
     let found = r.origin;
     Reading {
-        state: next,
         refusal: r.refusal,
         value: r.value,
         origin: origin_number(found),
@@ -197,8 +218,8 @@ pub extern "C" fn vcm_read(
 
 // LINE: puts the 16 bytes of the line's most recent version into the caller's, and gives the refusal or 0; refused, they stay.
 #[no_mangle]
-pub extern "C" fn vcm_line<'a>(
-    state: State,
+pub extern "C" fn vcm_raw_line<'a>(
+    registers: Registers,
     archive: &'a [u8],
     pool: &'a [u8],
     groups: &[u32],
@@ -208,20 +229,36 @@ pub extern "C" fn vcm_line<'a>(
     line: u32,
     bytes: &mut [u8; 16],
 ) -> u32
-    ensures { λ r. ⌜ CopiesLine
-        (storageOf state (now (archive .entry)) (now (pool .entry)) (now (groups .entry)) (now (table .entry)) (now (owners .entry)) (now (history .entry)))
-        line r (now (bytes .entry)) (now (bytes .exit)) ⌝ }
+    ensures { λ r. ⌜ CopiesLine registers (memoryOf (now (archive .entry)) (now (pool .entry)) (now (groups .entry)) (now (table .entry)) (now (owners .entry)) (now (history .entry))) line r (now (bytes .entry)) (now (bytes .exit)) ⌝ }
 {
-    let refusal = store::line_refusal(state, archive, pool, groups, table, owners, history, line);
-    let part = store::line(state, archive, pool, groups, table, owners, history, line);
+    let refusal = access::line_refusal(
+        registers,
+        archive,
+        pool,
+        groups,
+        table,
+        owners,
+        history,
+        line,
+    );
+    let part = access::line(
+        registers,
+        archive,
+        pool,
+        groups,
+        table,
+        owners,
+        history,
+        line,
+    );
     copy_line(part, bytes);
     refusal
 }
 
 // LINE's companion: its refusal or 0.
 #[no_mangle]
-pub extern "C" fn vcm_line_refusal(
-    state: State,
+pub extern "C" fn vcm_raw_line_refusal(
+    registers: Registers,
     archive: &[u8],
     pool: &[u8],
     groups: &[u32],
@@ -230,37 +267,42 @@ pub extern "C" fn vcm_line_refusal(
     history: &[u16],
     line: u32,
 ) -> u32
-    ensures { λ r. ⌜ Promises (LINE-REFUSAL line)
-        (storageOf state (now (archive .entry)) (now (pool .entry)) (now (groups .entry)) (now (table .entry)) (now (owners .entry)) (now (history .entry)))
-        (outcome r)
-        (storageOf state (now (archive .entry)) (now (pool .entry)) (now (groups .entry)) (now (table .entry)) (now (owners .entry)) (now (history .entry))) ⌝ }
+    ensures { λ r. ⌜ Looks (LINE-REFUSAL line) registers (memoryOf (now (archive .entry)) (now (pool .entry)) (now (groups .entry)) (now (table .entry)) (now (owners .entry)) (now (history .entry))) (outcome r) ⌝ }
 {
-    store::line_refusal(state, archive, pool, groups, table, owners, history, line)
+    access::line_refusal(
+        registers,
+        archive,
+        pool,
+        groups,
+        table,
+        owners,
+        history,
+        line,
+    )
 }
 
 // MARK: writes nothing lent.
 #[no_mangle]
-pub extern "C" fn vcm_mark(
-    state: State,
+pub extern "C" fn vcm_raw_mark(
+    registers: Registers,
     archive: &[u8],
     pool: &[u8],
     groups: &[u32],
     table: &[u16],
     owners: &[u32],
     history: &[u16],
-) -> Outcome
-    ensures { λ r. ⌜ Marks
-        (storageOf state (now (archive .entry)) (now (pool .entry)) (now (groups .entry)) (now (table .entry)) (now (owners .entry)) (now (history .entry)))
-        (r .refusal)
-        (storageOf (r .state) (now (archive .entry)) (now (pool .entry)) (now (groups .entry)) (now (table .entry)) (now (owners .entry)) (now (history .entry))) ⌝ }
+) -> Step
+    ensures { λ r. ⌜ MarksIn registers (memoryOf (now (archive .entry)) (now (pool .entry)) (now (groups .entry)) (now (table .entry)) (now (owners .entry)) (now (history .entry))) (r .refusal) (r .registers) ⌝ }
 {
-    store::mark(state, archive, pool, groups, table, owners, history)
+    marks::mark(registers, archive, pool, groups, table, owners, history)
 }
 
-// ROLLBACK: writes groups and history.
+// ROLLBACK: writes the cache's valid flags, groups and history.
 #[no_mangle]
-pub extern "C" fn vcm_rollback(
-    state: State,
+pub extern "C" fn vcm_raw_rollback(
+    registers: Registers,
+    origins: &[u16; 32],
+    valid: &mut [u8; 32],
     archive: &[u8],
     pool: &[u8],
     groups: &mut [u32],
@@ -268,19 +310,29 @@ pub extern "C" fn vcm_rollback(
     owners: &[u32],
     history: &mut [u16],
     k: u32,
-) -> Outcome
-    ensures { λ r. ⌜ RollsBack
-        (storageOf state (now (archive .entry)) (now (pool .entry)) (now (groups .entry)) (now (table .entry)) (now (owners .entry)) (now (history .entry)))
-        k (r .refusal)
-        (storageOf (r .state) (now (archive .entry)) (now (pool .entry)) (now (groups .exit)) (now (table .entry)) (now (owners .entry)) (now (history .exit))) ⌝ }
+) -> Step
+    ensures { λ r. ⌜ RollsBackIn (now (origins .entry)) registers (now (valid .entry)) (memoryOf (now (archive .entry)) (now (pool .entry)) (now (groups .entry)) (now (table .entry)) (now (owners .entry)) (now (history .entry))) k (r .refusal) (r .registers) (now (valid .exit))
+        (memoryOf (now (archive .entry)) (now (pool .entry)) (now (groups .exit)) (now (table .entry)) (now (owners .entry)) (now (history .exit))) ⌝ }
 {
-    store::rollback(state, archive, pool, groups, table, owners, history, k)
+    marks::rollback(
+        registers,
+        origins,
+        valid,
+        archive,
+        pool,
+        groups,
+        table,
+        owners,
+        history,
+        k,
+    )
 }
 
-// ADVANCE: writes archive, groups and history.
+// ADVANCE: writes the frames of the cache's entries, archive, groups and history.
 #[no_mangle]
-pub extern "C" fn vcm_advance(
-    state: State,
+pub extern "C" fn vcm_raw_advance(
+    registers: Registers,
+    origins: &mut [u16; 32],
     archive: &mut [u8],
     pool: &[u8],
     groups: &mut [u32],
@@ -288,19 +340,27 @@ pub extern "C" fn vcm_advance(
     owners: &[u32],
     history: &mut [u16],
     k: u32,
-) -> Outcome
-    ensures { λ r. ⌜ Advances
-        (storageOf state (now (archive .entry)) (now (pool .entry)) (now (groups .entry)) (now (table .entry)) (now (owners .entry)) (now (history .entry)))
-        k (r .refusal)
-        (storageOf (r .state) (now (archive .exit)) (now (pool .entry)) (now (groups .exit)) (now (table .entry)) (now (owners .entry)) (now (history .exit))) ⌝ }
+) -> Step
+    ensures { λ r. ⌜ AdvancesIn registers (now (origins .entry)) (memoryOf (now (archive .entry)) (now (pool .entry)) (now (groups .entry)) (now (table .entry)) (now (owners .entry)) (now (history .entry))) k (r .refusal) (r .registers) (now (origins .exit))
+        (memoryOf (now (archive .exit)) (now (pool .entry)) (now (groups .exit)) (now (table .entry)) (now (owners .entry)) (now (history .exit))) ⌝ }
 {
-    store::advance(state, archive, pool, groups, table, owners, history, k)
+    marks::advance(
+        registers,
+        origins,
+        archive,
+        pool,
+        groups,
+        table,
+        owners,
+        history,
+        k,
+    )
 }
 
 // COUNTS: writes nothing.
 #[no_mangle]
-pub extern "C" fn vcm_counts(
-    state: State,
+pub extern "C" fn vcm_raw_counts(
+    registers: Registers,
     archive: &[u8],
     pool: &[u8],
     groups: &[u32],
@@ -308,17 +368,14 @@ pub extern "C" fn vcm_counts(
     owners: &[u32],
     history: &[u16],
 ) -> Counted
-    ensures { λ r. ⌜ Promises COUNTS
-        (storageOf state (now (archive .entry)) (now (pool .entry)) (now (groups .entry)) (now (table .entry)) (now (owners .entry)) (now (history .entry)))
-        (counting (r .refusal) (r .live) (r .pages))
-        (storageOf state (now (archive .entry)) (now (pool .entry)) (now (groups .entry)) (now (table .entry)) (now (owners .entry)) (now (history .entry))) ⌝ }
+    ensures { λ r. ⌜ Looks COUNTS registers (memoryOf (now (archive .entry)) (now (pool .entry)) (now (groups .entry)) (now (table .entry)) (now (owners .entry)) (now (history .entry))) (counting (r .refusal) (r .live) (r .pages)) ⌝ }
 {
-    store::counts(state, archive, pool, groups, table, owners, history)
+    marks::counts(registers, archive, pool, groups, table, owners, history)
 }
 
 // CHECK: writes nothing.
 #[no_mangle]
-pub extern "C" fn vcm_check(
+pub extern "C" fn vcm_raw_check(
     state: State,
     archive: &[u8],
     pool: &[u8],
@@ -327,9 +384,7 @@ pub extern "C" fn vcm_check(
     owners: &[u32],
     history: &[u16],
 ) -> Verdict
-    ensures { λ r. ⌜ ChecksAs
-        (storageOf state (now (archive .entry)) (now (pool .entry)) (now (groups .entry)) (now (table .entry)) (now (owners .entry)) (now (history .entry)))
-        (r .refusal) (r .yes) ⌝ }
+    ensures { λ r. ⌜ ChecksAs (storageOf state (now (archive .entry)) (now (pool .entry)) (now (groups .entry)) (now (table .entry)) (now (owners .entry)) (now (history .entry))) (r .refusal) (r .yes) ⌝ }
 {
     let r = store::check(state, archive, pool, groups, table, owners, history);
     if r.yes {

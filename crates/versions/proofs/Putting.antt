@@ -2,7 +2,7 @@
 use mathlib.Core.Path.{_≡_, refl, sym, _∙_, ap}
 use mathlib.Core.Bool.{Bool, true, false}
 use mathlib.Core.List.{List}
-use Prim.Native.Nat.{ℕ, _/_, _≤_, _<_, min}
+use Prim.Native.Nat.{ℕ, _+_, _/_, _≤_, _<_, min}
 use native.Mathlib.Omega.{arith}
 use borrow.Author.Tests.{lt-ltb, le-ltb}
 use lib.ListN.{length, getD}
@@ -13,11 +13,21 @@ use Rattle.frames.specs.declared.Found.the-variants.{At, Nothing}
 use Rattle.frames.proofs.Circle.{frame-below}
 use Rattle.written.specs.Bits.{Written, effective}
 use Rattle.pages.specs.Table.{heldAt, given}
+use Rattle.pages.proofs.Claiming.{given-free}
 use Rattle.versions.specs.Newest.{entryPlace, AsksEntry}
-use Rattle.versions.specs.Steps.{pageFor, AsksPageFor, AsksPut}
+use Rattle.versions.specs.Steps.{namedPage, pageFor, hintFor, AsksPageFor, AsksPut}
 use Rattle.versions.proofs.Finding.{entry-within, entry-asks}
 
 -- ---- the page of a write
+module _ (lines pages : ℕ) (table : List ℕ) (frame line n : ℕ) (e : (n ≡ getD table (entryPlace lines frame line) 0) × (n < 65536)) where
+  pub page-named : n < pages → At n ≡ namedPage lines pages table frame line
+  unfolding namedPage
+  page-named b = rw (lt-ltb (getD table (entryPlace lines frame line) 0) pages (omega (arith, e .0))) (ap At (e .0))
+
+  pub page-unnamed : pages ≤ n → Nothing ≡ namedPage lines pages table frame line
+  unfolding namedPage
+  page-unnamed b = rw (le-ltb (getD table (entryPlace lines frame line) 0) pages (omega (arith, e .0))) refl
+
 pub page-entry : (w : Written) (pages frame line : ℕ) (table owners : List ℕ) → AsksPageFor w pages frame line table owners
     → AsksEntry (w .lines) frame line (length table)
 page-entry w pages frame line table owners a =
@@ -26,20 +36,32 @@ page-entry w pages frame line table owners a =
 
 module _ (w : Written) (pages hint : ℕ) (table owners : List ℕ) (frame line : ℕ) (needed : Bool)
     (told : needed ≡ needs (effective w (indexOf (w .frames) (w .omf) frame)) (line / 8)) where
-  abbrev named : ℕ
-  named = getD table (entryPlace (w .lines) frame line) 0
+  abbrev Chosen : (page : Found) (hint : ℕ) → Type 0
+  Chosen page next = (page ≡ pageFor w pages hint table owners frame line) × (next ≡ hintFor w hint frame line page)
 
-  pub page-named : (n : ℕ) → needed ≡ true → (n ≡ named) × (n < 65536) → n < pages → At n ≡ pageFor w pages hint table owners frame line
-  unfolding pageFor
-  page-named n t e b = rw (sym told ∙ t, lt-ltb named pages (omega (arith, e .0))) (ap At (e .0))
+  pub page-own : (x : Found) → needed ≡ true → x ≡ namedPage (w .lines) pages table frame line → Chosen x hint
+  unfolding pageFor hintFor
+  page-own x t e = (rw (sym told ∙ t) e, same x)
+    where
+      same : (y : Found) → hint ≡ hintFor w hint frame line y
+      same (At p) = rw (sym told ∙ t) refl
+      same Nothing = refl
 
-  pub page-unnamed : (n : ℕ) → needed ≡ true → (n ≡ named) × (n < 65536) → pages ≤ n → Nothing ≡ pageFor w pages hint table owners frame line
-  unfolding pageFor
-  page-unnamed n t e b = rw (sym told ∙ t, le-ltb named pages (omega (arith, e .0))) refl
+  module _ (x : Found) (t : needed ≡ false) (e : x ≡ given pages (min hint pages) (heldAt w table owners)) where
+    pub page-given : (y : Found) → x ≡ y → y ≡ pageFor w pages hint table owners frame line
+    unfolding pageFor
+    page-given y d = rw (sym told ∙ t) (sym d ∙ e)
 
-  pub page-given : (x : Found) → needed ≡ false → x ≡ given pages (min hint pages) (heldAt w table owners) → x ≡ pageFor w pages hint table owners frame line
-  unfolding pageFor
-  page-given x t e = rw (sym told ∙ t) e
+    pub hint-behind : (p : ℕ) → p + 1 ≡ hintFor w hint frame line (At p)
+    unfolding hintFor
+    hint-behind p = rw (sym told ∙ t) refl
+
+    pub hint-stays : hint ≡ hintFor w hint frame line Nothing
+    unfolding hintFor
+    hint-stays = refl
+
+    pub given-few : (p : ℕ) → x ≡ At p → p < pages
+    given-few p d = given-free pages (min hint pages) (heldAt w table owners) (omega arith) p (sym e ∙ d) .0
 
 -- ---- a version put there
 module _ (w : Written) (pages tag line index page : ℕ) (pool table owners : List ℕ) (asks : AsksPut w pages tag line index page pool table owners)

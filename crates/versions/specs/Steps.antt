@@ -1,5 +1,5 @@
 -- What RESET, ADVANCE and WRITE do to archive, pool, table and owners.
-use Prim.Native.Nat.{ℕ, zero, suc, _-_, _*_, _/_, _%_, _≤_, _<_, min}
+use Prim.Native.Nat.{ℕ, zero, suc, _+_, _-_, _*_, _/_, _%_, _≤_, _<_, min}
 use mathlib.Core.Bool.{cond}
 use mathlib.Core.List.{List}
 use lib.Dec.{ltb}
@@ -33,13 +33,28 @@ folded w pages k pool table (suc n) archive =
     foldedLine (folded w pages k pool table n archive) pool n
     (spotOf (w .lines) (w .frames) (w .omf) pages table n (newestFrom w n (k - 1)))
 
+-- An archive with n lines from one on folded.
+unfoldable pub foldedFrom : Written → (pages k : ℕ) → (pool table : List ℕ) → (line n : ℕ) → List ℕ → List ℕ
+foldedFrom w pages k pool table l zero archive = archive
+foldedFrom w pages k pool table l (suc n) archive =
+    foldedLine (foldedFrom w pages k pool table l n archive) pool (l + n)
+    (spotOf (w .lines) (w .frames) (w .omf) pages table (l + n) (newestFrom w (l + n) (k - 1)))
+
 -- The page that a write to a line in a frame goes to: the one that the table names where the line's block is needed in the frame
 -- already, and else one that is given out. Nothing: no page is free.
+unfoldable pub namedPage : (lines pages : ℕ) → (table : List ℕ) → (frame line : ℕ) → Found
+namedPage lines pages table f l = cond (ltb (getD table (entryPlace lines f l) 0) pages) (At (getD table (entryPlace lines f l) 0)) Nothing
+
 unfoldable pub pageFor : Written → (pages hint : ℕ) → (table owners : List ℕ) → (frame line : ℕ) → Found
 pageFor w pages hint table owners f l =
     cond (needs (effective w (indexOf (w .frames) (w .omf) f)) (l / 8))
-    (cond (ltb (getD table (entryPlace (w .lines) f l) 0) pages) (At (getD table (entryPlace (w .lines) f l) 0)) Nothing)
+    (namedPage (w .lines) pages table f l)
     (given pages (min hint pages) (heldAt w table owners))
+
+-- Where the next search for a page starts: behind the page where that was given out, and else where it did.
+unfoldable pub hintFor : Written → (hint frame line : ℕ) → Found → ℕ
+hintFor w hint f l (At p) = cond (needs (effective w (indexOf (w .frames) (w .omf) f)) (l / 8)) hint (p + 1)
+hintFor w hint f l Nothing = hint
 
 -- What is asked to give a write its page,
 pub record AsksPageFor (w : Written) (pages frame line : ℕ) (table owners : List ℕ) : Type 0 where

@@ -4,7 +4,7 @@
 use cache::Entry;
 use frames::Found;
 ghost use mathlib.Core.Path.{_≡_};
-ghost use Prim.Native.Nat.{_*_, _%_, _≤_, _<_};
+ghost use Prim.Native.Nat.{_+_, _*_, _%_, _≤_, _<_};
 ghost use lib.ListN;
 ghost use lib.ListN.{length, getD};
 ghost use Rattle.frames.specs.Circle.{frameAt};
@@ -12,7 +12,7 @@ ghost use Rattle.written.specs.Bits.{writtenOf};
 ghost use Rattle.written.specs.Steps.{withWritten};
 ghost use Rattle.pages.specs.Lines.{withPageLine};
 ghost use Rattle.versions.specs.Newest.{entryPlace, spotOf, contentOf, newestOf, latestHeld, AsksEntry, AsksSpot, AsksContent, AsksNewest};
-ghost use Rattle.versions.specs.Steps.{zeroed, foldedLine, folded, pageFor, AsksPageFor, AsksPut, AsksFold};
+ghost use Rattle.versions.specs.Steps.{zeroed, foldedLine, folded, foldedFrom, namedPage, pageFor, hintFor, AsksPageFor, AsksPut, AsksFold};
 
 // Where a version stands: in a page of the pool, in the slot of its line, or in the archive.
 pub enum Spot {
@@ -32,6 +32,12 @@ pub struct Version {
     pub content: [u8; 16],
     pub frame: u16,
     pub origin: Origin,
+}
+
+// The page that a write goes to, if there is one, and where the next search for a page starts.
+pub struct Choice {
+    pub page: Found,
+    pub hint: u32,
 }
 
 // Where the table has the page of a line in a frame.
@@ -146,7 +152,7 @@ pub fn latest<'a>(
     live: u32,
     line: u32,
 ) -> Version
-    requires { ⌜ (AsksNewest (writtenOf lines frames omf (now groups) (now history)) pages live line (now archive) (now pool) (now table)) × (length (now bytes) ≡ 512) ⌝ }
+    requires { ⌜ AsksNewest (writtenOf lines frames omf (now groups) (now history)) pages live line (now archive) (now pool) (now table) ⌝ }
     ensures { λ r. ⌜ r ≡ latestHeld (now (held .entry)) (now (origins .entry)) (now (valid .entry)) (now (bytes .entry)) (writtenOf lines frames omf (now (groups .entry)) (now (history .entry))) pages live (now (archive .entry)) (now (pool .entry)) (now (table .entry)) line ⌝ }
 {
     match cache::find(held, valid, line) {
@@ -198,7 +204,75 @@ fn fold_line(archive: &mut [u8], pool: &[u8], lines: u32, pages: u32, line: u32,
     }
 }
 
-// Folds the versions of the k oldest frames into the archive, line after line.
+// Folds the versions of a block's eight lines in the k oldest frames into the archive, line after line.
+fn fold_block(
+    archive: &mut [u8],
+    pool: &[u8],
+    groups: &[u32],
+    table: &[u16],
+    history: &[u16],
+    lines: u32,
+    frames: u32,
+    omf: u32,
+    pages: u32,
+    k: u32,
+    block: u32,
+)
+    requires { ⌜ (AsksFold (writtenOf lines frames omf (now groups) (now history)) pages k (now archive) (now pool) (now table)) × (block * 8 + 8 ≤ lines) ⌝ }
+    ensures { λ _. ⌜ now (archive .exit) ≡ foldedFrom (writtenOf lines frames omf (now (groups .entry)) (now (history .entry))) pages k (now (pool .entry)) (now (table .entry)) (block * 8) 8 (now (archive .entry)) ⌝ }
+{
+    let mut n = 0;
+    while n < 8 {
+        let line = block * 8 + n;
+        let found = written::search(groups, history, lines, frames, omf, line, k - 1);
+        let at = locate(table, lines, frames, omf, pages, line, found);
+        fold_line(archive, pool, lines, pages, line, at);
+        n = n + 1;
+    }
+}
+
+// Folds the versions of neighbouring blocks so, block after block. A block without a bit in the frames' working areas is passed over.
+fn fold_span(
+    archive: &mut [u8],
+    pool: &[u8],
+    groups: &[u32],
+    table: &[u16],
+    history: &[u16],
+    lines: u32,
+    frames: u32,
+    omf: u32,
+    pages: u32,
+    k: u32,
+    first: u32,
+    count: u32,
+)
+    requires { ⌜ (AsksFold (writtenOf lines frames omf (now groups) (now history)) pages k (now archive) (now pool) (now table)) × (first * 8 + count * 8 ≤ lines) ⌝ }
+    ensures { λ _. ⌜ now (archive .exit) ≡ foldedFrom (writtenOf lines frames omf (now (groups .entry)) (now (history .entry))) pages k (now (pool .entry)) (now (table .entry)) (first * 8) (count * 8) (now (archive .entry)) ⌝ }
+{
+    let mut n = 0;
+    while n < count {
+        let block = first + n;
+        if !written::block_is_blank(groups, lines, frames, omf, block, k) {
+            fold_block(
+                archive,
+                pool,
+                groups,
+                table,
+                history,
+                lines,
+                frames,
+                omf,
+                pages,
+                k,
+                block,
+            );
+        }
+        n = n + 1;
+    }
+}
+
+// Folds the versions of the k oldest frames into the archive, eight blocks at a time. Blocks without a bit in the frames' working areas,
+// as most are, are passed over together.
 pub fn fold(
     archive: &mut [u8],
     pool: &[u8],
@@ -214,16 +288,43 @@ pub fn fold(
     requires { ⌜ AsksFold (writtenOf lines frames omf (now groups) (now history)) pages k (now archive) (now pool) (now table) ⌝ }
     ensures { λ _. ⌜ now (archive .exit) ≡ folded (writtenOf lines frames omf (now (groups .entry)) (now (history .entry))) pages k (now (pool .entry)) (now (table .entry)) lines (now (archive .entry)) ⌝ }
 {
-    let mut line = 0;
-    while line < lines {
-        let found = written::search(groups, history, lines, frames, omf, line, k - 1);
-        let at = locate(table, lines, frames, omf, pages, line, found);
-        fold_line(archive, pool, lines, pages, line, at);
-        line = line + 1;
+    let blocks = lines / 8;
+    let mut block = 0;
+    while block < blocks {
+        let count = frames::least(8, blocks - block);
+        if !written::span_is_blank(groups, lines, frames, omf, block * 8, count * 8, k) {
+            fold_span(
+                archive,
+                pool,
+                groups,
+                table,
+                history,
+                lines,
+                frames,
+                omf,
+                pages,
+                k,
+                block,
+                count,
+            );
+        }
+        block = block + count;
     }
 }
 
-// The page that a write to a line in a frame goes to.
+// The page that the table names for a line in a frame, if it is one of the P.
+fn named(table: &[u16], lines: u32, pages: u32, frame: u32, line: u32) -> Found
+    requires { ⌜ AsksEntry lines frame line (length (now table)) ⌝ }
+    ensures { λ r. ⌜ r ≡ namedPage lines pages (now (table .entry)) frame line ⌝ }
+{
+    let page = entry(table, lines, frame, line);
+    if page < pages {
+        return Found::At(page);
+    }
+    Found::Nothing
+}
+
+// The page that a write to a line in a frame goes to: the block's own where it is needed there already, else one that is not held.
 pub fn page_for(
     groups: &[u32],
     history: &[u16],
@@ -236,18 +337,16 @@ pub fn page_for(
     hint: u32,
     frame: u32,
     line: u32,
-) -> Found
+) -> Choice
     requires { ⌜ AsksPageFor (writtenOf lines frames omf (now groups) (now history)) pages frame line (now table) (now owners) ⌝ }
-    ensures { λ r. ⌜ r ≡ pageFor (writtenOf lines frames omf (now (groups .entry)) (now (history .entry))) pages hint (now (table .entry)) (now (owners .entry)) frame line ⌝ }
+    ensures { λ r. ⌜ (r .page ≡ pageFor (writtenOf lines frames omf (now (groups .entry)) (now (history .entry))) pages hint (now (table .entry)) (now (owners .entry)) frame line)
+        × (r .hint ≡ hintFor (writtenOf lines frames omf (now (groups .entry)) (now (history .entry))) hint frame line (r .page)) ⌝ }
 {
-    if written::needed(groups, history, lines, frames, omf, frame, line / 8) {
-        let page = entry(table, lines, frame, line);
-        if page < pages {
-            return Found::At(page);
-        }
-        return Found::Nothing;
+    if written::needed_for(groups, history, lines, frames, omf, frame, line) {
+        let page = named(table, lines, pages, frame, line);
+        return Choice { page, hint };
     }
-    pages::table::give(
+    match pages::table::give(
         groups,
         history,
         table,
@@ -257,7 +356,16 @@ pub fn page_for(
         omf,
         pages,
         hint,
-    )
+    ) {
+        Found::At(p) => Choice {
+            page: Found::At(p),
+            hint: p + 1,
+        },
+        Found::Nothing => Choice {
+            page: Found::Nothing,
+            hint,
+        },
+    }
 }
 
 // Puts a version of a line in a page, in the frame of an index: the bytes go to the line's slot, the page to the place of frame and

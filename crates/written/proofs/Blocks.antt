@@ -151,7 +151,7 @@ block-found w block n from end i r b c e h =
     let found = true-from i (i + upOf (w .frames) (w .omf) i end) (λ k. effective w k (block * 8 + n)) (sym e ∙ h) in
     sym (any-true 8 _ n b (from-true from end (found .0) (λ k. effective w k (block * 8 + n)) (omega (arith, found .1)) (omega (arith, found .2)) (found .3)))
 
--- The window of one frame.
+-- The window of one frame,
 pub one-frame : (w : Written) (block i j : ℕ) (r : Bool) → i ≡ j → r ≡ blockHas w block i (i + 1) → r ≡ needs (effective w j) block
 unfolding blockHas needs
 one-frame w block i j r d e = e ∙ (any-same 8 _ _ (λ n b. one (block * 8 + n)) ∙ ap (λ (z : ℕ). needs (effective w z) block) d)
@@ -163,3 +163,10 @@ one-frame w block i j r d e = e ∙ (any-same 8 _ _ (λ n b. one (block * 8 + n)
         go true p = from-true i (i + 1) i (λ k. effective w k l) (omega arith) (omega arith) p
         go false p =
             from-false i (i + 1) (λ k. effective w k l) (λ k a b. ap (λ (z : ℕ). effective w z l) (le-antisymm (omega arith) a) ∙ p)
+
+-- and one of the block's lines in it.
+pub line-found : (w : Written) (l i j : ℕ) (r : Bool) → i ≡ j → r ≡ runHas w l i (i + 1) → r ≡ true → true ≡ needs (effective w j) (l / 8)
+line-found w l i j r d e h =
+    let own : l ≡ l / 8 * 8 + l % 8 = omega arith in
+    one-frame w (l / 8) i j true d
+    (block-found w (l / 8) (l % 8) i (i + 1) i r (omega arith) (omega arith) (e ∙ ap (λ (m : ℕ). runHas w m i (i + 1)) own) h)

@@ -1,6 +1,7 @@
 pub mod Areas
 pub mod Runs
 pub mod Blocks
+pub mod Blanks
 pub mod Windows
 pub mod Setting
 pub mod Sweeping

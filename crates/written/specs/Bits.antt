@@ -1,13 +1,13 @@
 -- Written bits in groups of sixteen with their tag, and the rollback history that masks them. Quotations are of document 01.
-use Prim.Native.Nat.{ℕ, _+_, _-_, _*_, _/_, _%_, _≤_, _<_, min}
+use Prim.Native.Nat.{ℕ, zero, suc, _+_, _-_, _*_, _/_, _%_, _≤_, _<_, min}
 use mathlib.Core.Path.{_≡_}
-use mathlib.Core.Bool.{Bool, _&&_}
+use mathlib.Core.Bool.{Bool, not, _&&_}
 use mathlib.Core.List.{List}
 use lib.Dec.{leb, ltb}
 use lib.ListN.{length, getD}
 use Rattle.rules.specs.Seen.{any}
 use Rattle.frames.specs.Circle.{indexOf, frameAt}
-use Rattle.frames.specs.Digits.{bit, rangeOf}
+use Rattle.frames.specs.Digits.{digit, bit, rangeOf}
 use Rattle.frames.specs.Search.{greatest}
 use Rattle.frames.specs.declared.Found.{Found}
 
@@ -85,6 +85,31 @@ runHas w l i end = anyFrom i (i + upOf (w .frames) (w .omf) i end) (λ k. effect
 unfoldable pub blockHas : Written → (block from end : ℕ) → Bool
 blockHas w block from end = any 8 (λ n. anyFrom from end (λ i. effective w i (block * 8 + n)))
 
+-- A number of each of n neighbouring groups, added up: 0 only where each is.
+unfoldable pub sumFrom : (f : ℕ → ℕ) → (groups : List ℕ) → (at n : ℕ) → ℕ
+sumFrom f groups at zero = 0
+sumFrom f groups at (suc n) = sumFrom f groups at n + f (getD groups (at + n) 0)
+
+-- How many of a block's 8 lines have their bit of a frame set, effective or stale.
+unfoldable pub setIn : (lines : ℕ) → (groups : List ℕ) → (frame block : ℕ) → ℕ
+setIn lines groups f block = sumFrom (λ g. digit g (f % 16)) groups (placeOf lines (f / 16) (block * 8)) 8
+
+-- The bits of n neighbouring groups, all sixteen of each,
+abbrev pub bitsFrom : (groups : List ℕ) → (at n : ℕ) → ℕ
+bitsFrom groups at n = sumFrom (λ g. g % 65536) groups at n
+
+-- those of neighbouring lines in the working area of an index,
+unfoldable pub spanBits : (lines frames omf : ℕ) → (groups : List ℕ) → (first count index : ℕ) → ℕ
+spanBits lines frames omf groups first count i = bitsFrom groups (placeOf lines (frameAt frames omf i / 16) first) count
+
+-- and whether none is set in the working areas of the indexes below an end,
+unfoldable pub spanBlank : (lines frames omf : ℕ) → (groups : List ℕ) → (first count end : ℕ) → Bool
+spanBlank lines frames omf groups first count end = not (any end (λ i. ltb 0 (spanBits lines frames omf groups first count i)))
+
+-- for a block's 8 lines.
+abbrev pub blockBlank : (lines frames omf : ℕ) → (groups : List ℕ) → (block end : ℕ) → Bool
+blockBlank lines frames omf groups block end = spanBlank lines frames omf groups (block * 8) 8 end
+
 -- The bits of a group, in an area, whose index from OMF lies in a window. The first u frames of the area have the indexes from s on; the
 -- others, where OMF lies inside the area, those from 0 on.
 unfoldable pub firstIndex : (frames omf area : ℕ) → ℕ
@@ -132,3 +157,28 @@ pub record AsksBlock (w : Written) (block end : ℕ) : Type 0 where
   pub lent : Lent w
   pub block-below : block * 8 + 8 ≤ w .lines
   pub end-within : end ≤ w .frames
+
+-- What counting a block's bits of a frame asks.
+pub record AsksSet (lines frame block long : ℕ) : Type 0 where
+  pub near : Near lines (frame / 16) (block * 8)
+  pub within : placeOf lines (frame / 16) (block * 8) + 8 ≤ long
+
+-- What the test of neighbouring lines asks, without a history,
+pub record AsksSpan (lines frames omf first count end long : ℕ) : Type 0 where
+  pub lines-few : lines ≤ 4096
+  pub frames-by : frames % 16 ≡ 0
+  pub frames-few : frames ≤ 4096
+  pub omf-below : omf < frames
+  pub span-below : first + count ≤ lines
+  pub end-within : end ≤ frames
+  pub groups-long : frames / 16 * lines ≤ long
+
+-- and that of a block.
+pub record AsksBlank (lines frames omf block end long : ℕ) : Type 0 where
+  pub lines-few : lines ≤ 4096
+  pub frames-by : frames % 16 ≡ 0
+  pub frames-few : frames ≤ 4096
+  pub omf-below : omf < frames
+  pub block-below : block * 8 + 8 ≤ lines
+  pub end-within : end ≤ frames
+  pub groups-long : frames / 16 * lines ≤ long

@@ -8,7 +8,7 @@ ghost use lib.ListN.{length, getD};
 ghost use Rattle.rules.specs.Seen.{needs};
 ghost use Rattle.frames.specs.Circle.{Turn, indexOf};
 ghost use Rattle.frames.specs.Lists.{rewrite};
-ghost use Rattle.written.specs.Bits.{writtenOf, Lent, Asks, AsksBlock, Near, placeOf, boundOf, effective, newestFrom, newestRun, newestInArea, downOf, upOf, standsIn, runHas, blockHas, firstIndex, beforeWrap, afterWrap, cutOf, windowOf};
+ghost use Rattle.written.specs.Bits.{writtenOf, Lent, Asks, AsksBlock, AsksSet, AsksSpan, AsksBlank, Near, placeOf, boundOf, effective, newestFrom, newestRun, newestInArea, downOf, upOf, standsIn, runHas, blockHas, setIn, bitsFrom, spanBlank, blockBlank, firstIndex, beforeWrap, afterWrap, cutOf, windowOf};
 ghost use Rattle.written.specs.Steps.{AsksWindow, AsksClear, AsksReset, regrouped, withWritten, Entered, maskedOf, swept, keptOf, cleared, lowerBound, lowered, RolledBack, blanked};
 
 // Where the group of a line in a working area stands.
@@ -192,7 +192,23 @@ pub fn block_has(
     found
 }
 
-// Whether the page of a frame and block is needed: the window of that one frame.
+// How many of a block's eight lines have their bit of a frame set, effective or stale: counted in one go, without a look at the history.
+fn set_in(groups: &[u32], lines: u32, frame: u32, block: u32) -> u32
+    requires { ⌜ AsksSet lines frame block (length (now groups)) ⌝ }
+    ensures { λ r. ⌜ r ≡ setIn lines (now (groups .entry)) frame block ⌝ }
+{
+    let at = place_of(lines, frame / 16, block * 8);
+    let here = frames::power(frame % 16);
+    let mut sum = 0;
+    let mut n = 0;
+    while n < 8 {
+        sum = sum + groups[at + n] / here % 2;
+        n = n + 1;
+    }
+    sum
+}
+
+// Whether the page of a frame and block is needed: the window of that one frame, where a bit is set in it.
 pub fn needed(
     groups: &[u32],
     history: &[u16],
@@ -205,8 +221,90 @@ pub fn needed(
     requires { ⌜ (AsksBlock (writtenOf lines frames omf (now groups) (now history)) block frames) × (frame < frames) ⌝ }
     ensures { λ r. ⌜ r ≡ needs (effective (writtenOf lines frames omf (now (groups .entry)) (now (history .entry))) (indexOf frames omf frame)) block ⌝ }
 {
+    if set_in(groups, lines, frame, block) == 0 {
+        return false;
+    }
     let index = frames::index(frame, omf, frames);
     block_has(groups, history, lines, frames, omf, block, index, index + 1)
+}
+
+// The same for the block of a line, which is looked at before the others: a line that is written again is found at once.
+pub fn needed_for(
+    groups: &[u32],
+    history: &[u16],
+    lines: u32,
+    frames: u32,
+    omf: u32,
+    frame: u32,
+    line: u32,
+) -> bool
+    requires { ⌜ (AsksBlock (writtenOf lines frames omf (now groups) (now history)) (line / 8) frames) × (frame < frames) ⌝ }
+    ensures { λ r. ⌜ r ≡ needs (effective (writtenOf lines frames omf (now (groups .entry)) (now (history .entry))) (indexOf frames omf frame)) (line / 8) ⌝ }
+{
+    if set_in(groups, lines, frame, line / 8) == 0 {
+        return false;
+    }
+    let index = frames::index(frame, omf, frames);
+    let end = index + 1;
+    if run_has(groups, history, lines, frames, omf, line, index, end) {
+        return true;
+    }
+    block_has(groups, history, lines, frames, omf, line / 8, index, end)
+}
+
+// The bits of so many neighbouring groups added up, in one go.
+fn many_bits(groups: &[u32], at: usize, count: usize) -> u32
+    requires { ⌜ (at + count ≤ length (now groups)) × (count ≤ 4096) ⌝ }
+    ensures { λ r. ⌜ r ≡ bitsFrom (now (groups .entry)) at count ⌝ }
+{
+    let mut sum = 0;
+    let mut n = 0;
+    while n < count {
+        sum = sum + groups[at + n] % 65536;
+        n = n + 1;
+    }
+    sum
+}
+
+// Whether so many neighbouring lines have no bit at all, effective or stale, in the working areas of the indexes below an end: a search
+// from there finds none of them. The history is not looked at.
+pub fn span_is_blank(
+    groups: &[u32],
+    lines: u32,
+    frames: u32,
+    omf: u32,
+    first: u32,
+    count: u32,
+    end: u32,
+) -> bool
+    requires { ⌜ AsksSpan lines frames omf first count end (length (now groups)) ⌝ }
+    ensures { λ r. ⌜ r ≡ spanBlank lines frames omf (now (groups .entry)) first count end ⌝ }
+{
+    let many = count as usize;
+    let mut i = 0;
+    while i < end {
+        let area = frames::frame_at(i, omf, frames) / 16;
+        if 0 < many_bits(groups, place_of(lines, area, first), many) {
+            return false;
+        }
+        i = i + run_up(i, end, omf, frames);
+    }
+    true
+}
+
+// The same for a block's eight lines.
+pub fn block_is_blank(
+    groups: &[u32],
+    lines: u32,
+    frames: u32,
+    omf: u32,
+    block: u32,
+    end: u32,
+) -> bool
+    requires { ⌜ AsksBlank lines frames omf block end (length (now groups)) ⌝ }
+    ensures { λ r. ⌜ r ≡ blockBlank lines frames omf (now (groups .entry)) block end ⌝ }
+{
+    span_is_blank(groups, lines, frames, omf, block * 8, 8, end)
 }
 
 // The bits of a group before the circle closes in its area, and after, in a window of indexes.

@@ -23,7 +23,7 @@ part-result-end : tie.Need-part-result-end
 part-result-end c = search needs
 
 returns : tie.Need-returns
-returns c = line-refused _ _ _ (measured _ _ _ _ _ _ _ (c .before .before .before .measure .ensures) (c .before .before .admit-line .ensures)) (c .before .if1 .taken)
+returns c cache = line-refused _ _ _ (measured _ _ _ _ _ _ _ (c .before .before .before .measure .ensures) (c .before .before .admit-line .ensures)) (c .before .if1 .taken)
 
 live-requires : tie.Need-live-requires
 live-requires c κs = room-turn _ _ _ _ (line-room _ _ _ _ _ _ (measured _ _ _ _ _ _ _ (c .before .before .measure .ensures) (c .before .admit-line .ensures)) (c .if1 .left) .room)
@@ -94,10 +94,10 @@ part-result-end-3 c =
     omega (arith, g .line-below, g .archive-long)
 
 returns-2 : tie.Need-returns-2
-returns-2 c = line-in-page _ _ _ (measured _ _ _ _ _ _ _ (c .before .before .before .before .before .before .before .before .before .measure .ensures) (c .before .before .before .before .before .before .before .before .admit-line .ensures)) (c .before .before .before .before .before .before .before .if1 .left) _ (c .before .before .before .before .before .before .live .ensures) _ (c .before .before .before .before .before .search .ensures) _ (c .before .before .before .before .locate .ensures) _ (c .before .before .page .given .1)
+returns-2 c cache = line-in-page _ _ _ (measured _ _ _ _ _ _ _ (c .before .before .before .before .before .before .before .before .before .measure .ensures) (c .before .before .before .before .before .before .before .before .admit-line .ensures)) (c .before .before .before .before .before .before .before .if1 .left) _ (c .before .before .before .before .before .before .live .ensures) _ (c .before .before .before .before .before .search .ensures) _ (c .before .before .before .before .locate .ensures) _ (c .before .before .page .given .1)
 
 returns-3 : tie.Need-returns-3
-returns-3 c = line-in-archive _ _ _ (measured _ _ _ _ _ _ _ (c .before .before .before .before .before .before .before .before .measure .ensures) (c .before .before .before .before .before .before .before .admit-line .ensures)) (c .before .before .before .before .before .before .if1 .left) _ (c .before .before .before .before .before .live .ensures) _ (c .before .before .before .before .search .ensures) _ (c .before .before .before .locate .ensures) (c .before .enum-told .given .1)
+returns-3 c cache = line-in-archive _ _ _ (measured _ _ _ _ _ _ _ (c .before .before .before .before .before .before .before .before .measure .ensures) (c .before .before .before .before .before .before .before .admit-line .ensures)) (c .before .before .before .before .before .before .if1 .left) _ (c .before .before .before .before .before .live .ensures) _ (c .before .before .before .before .search .ensures) _ (c .before .before .before .locate .ensures) (c .before .enum-told .given .1)
 
 pub line-spec : {M : Type 1} → statement M
 line-spec =

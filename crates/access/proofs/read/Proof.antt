@@ -1,11 +1,11 @@
 -- `access::read` meets its contract. Assumes nothing.
-use mathlib.Core.Path.{_≡_}
-use lib.ListN.{length}
-use borrow.Author.Needs.{needs}
+use mathlib.Core.Path.{_≡_, refl}
+use Rattle.cache.proofs.Hits.{found-below}
 use Rattle.versions.specs.Newest.{originOf}
 use Rattle.storage.proofs.Admitting.{room-turn, room-newest}
 use Rattle.storage.proofs.Chains.{measured, place-room}
-use Rattle.storage.proofs.Using.{read-refused, read-told, read-state}
+use Rattle.storage.proofs.Using.{read-refused, hit-told, hit-state, miss-told, miss-state}
+use borrow.Author.Needs.{needs}
 use Rattle.access.proofs.read.Statement.{statement}
 use Rattle.access.proofs.read.Tie as tie
 
@@ -19,26 +19,62 @@ returns : tie.Need-returns
 unfolding originOf
 returns c = (read-refused _ _ _ _ (measured _ _ _ _ _ _ _ (c .before .before .measure .ensures) (c .before .admit-place .ensures)) (c .if1 .taken), λ z. absurd (c .if1 .taken z))
 
+find-requires : tie.Need-find-requires
+find-requires c κs = search needs
+
+enum-known-entry : tie.Need-enum-known-entry
+enum-known-entry c = search needs
+
+line-at-requires : tie.Need-line-at-requires
+line-at-requires c κs = found-below _ _ _ _ _ (c .before .before .before .before .find .ensures) (c .before .before .entry .given .1)
+
+recall-requires : tie.Need-recall-requires
+recall-requires c κs = found-below _ _ _ _ _ (c .before .before .before .before .before .before .find .ensures) (c .before .before .before .before .entry .given .1)
+
+value-of-requires : tie.Need-value-of-requires
+value-of-requires c κs = place-room _ _ _ _ _ _ _ (measured _ _ _ _ _ _ _ (c .before .before .before .before .before .before .before .before .before .before .before .before .measure .ensures) (c .before .before .before .before .before .before .before .before .before .before .before .admit-place .ensures)) (c .before .before .before .before .before .before .before .before .before .before .if1 .left) .bytes
+
+enum-told : tie.Need-enum-told
+enum-told c = search needs
+
 live-requires : tie.Need-live-requires
 live-requires c κs = room-turn _ _ _ _ (place-room _ _ _ _ _ _ _ (measured _ _ _ _ _ _ _ (c .before .before .before .before .before .before .before .measure .ensures) (c .before .before .before .before .before .before .admit-place .ensures)) (c .before .before .before .before .before .if1 .left) .room)
 
-latest-requires : tie.Need-latest-requires
-latest-requires c κs =
-    let p = place-room _ _ _ _ _ _ _ (measured _ _ _ _ _ _ _ (c .before .before .before .before .before .before .before .before .measure .ensures) (c .before .before .before .before .before .before .before .admit-place .ensures)) (c .before .before .before .before .before .before .if1 .left) in
-    let long : length (c .before .before .before .before .before .before .before .before .before .before .before .before .before .before .before .args .t1 .cache .bytes) ≡ 512 = search (needs, c .before .before .before .before .before .before .before .before .before .before .before .before .before .before .before .good .0 .1 .1 .1 .1 .1 .1 .1 .1 .1 .0) in
-    (room-newest _ _ _ _ _ _ _ _ _ (p .room) _ _ (c .live .ensures) (p .line-below), long)
+load-requires : tie.Need-load-requires
+load-requires c κs =
+    let p = place-room _ _ _ _ _ _ _ (measured _ _ _ _ _ _ _ (c .before .before .before .before .before .before .before .before .before .before .before .before .before .measure .ensures) (c .before .before .before .before .before .before .before .before .before .before .before .before .admit-place .ensures)) (c .before .before .before .before .before .before .before .before .before .before .before .if1 .left) in
+    room-newest _ _ _ _ _ _ _ _ _ (p .room) _ _ (c .before .before .before .before .before .live .ensures) (p .line-below)
 
-used-requires : tie.Need-used-requires
-used-requires c κs = search needs
-
-value-of-requires : tie.Need-value-of-requires
-value-of-requires c κs = place-room _ _ _ _ _ _ _ (measured _ _ _ _ _ _ _ (c .before .before .before .before .before .before .before .before .before .before .before .measure .ensures) (c .before .before .before .before .before .before .before .before .before .before .admit-place .ensures)) (c .before .before .before .before .before .before .before .before .before .if1 .left) .bytes
+value-of-requires-2 : tie.Need-value-of-requires-2
+value-of-requires-2 c κs = place-room _ _ _ _ _ _ _ (measured _ _ _ _ _ _ _ (c .before .before .before .before .before .before .before .before .before .before .before .before .before .before .before .measure .ensures) (c .before .before .before .before .before .before .before .before .before .before .before .before .before .before .admit-place .ensures)) (c .before .before .before .before .before .before .before .before .before .before .before .before .before .if1 .left) .bytes
 
 returns-2 : tie.Need-returns-2
 returns-2 c = (
-  read-told _ _ _ _ (measured _ _ _ _ _ _ _ (c .before .before .before .before .before .before .before .before .before .before .before .before .measure .ensures) (c .before .before .before .before .before .before .before .before .before .before .before .admit-place .ensures)) (c .before .before .before .before .before .before .before .before .before .before .if1 .left) _ (c .before .before .before .before .live .ensures) _ (c .before .before .before .latest .ensures) _ (c .value-of .ensures) _ (c .before .used .ensures),
-  λ z. read-state _ _ _ _ (measured _ _ _ _ _ _ _ (c .before .before .before .before .before .before .before .before .before .before .before .before .measure .ensures) (c .before .before .before .before .before .before .before .before .before .before .before .admit-place .ensures)) (c .before .before .before .before .before .before .before .before .before .before .if1 .left) _ (c .before .before .before .before .live .ensures) _ (c .before .before .before .latest .ensures) _ (c .value-of .ensures) _ (c .before .used .ensures),
+  hit-told _ _ _ _ (measured _ _ _ _ _ _ _ (c .before .before .before .before .before .before .before .before .before .before .before .before .before .measure .ensures) (c .before .before .before .before .before .before .before .before .before .before .before .before .admit-place .ensures)) (c .before .before .before .before .before .before .before .before .before .before .before .if1 .left) _ refl _ (c .before .before .before .before .before .before .before .before .find .ensures) _ (c .before .before .before .before .before .before .entry .given .1) _ (c .before .before .before .line-at .ensures) _ (c .value-of .ensures) _ (c .before .recall .ensures),
+  λ z. hit-state _ _ _ _ (measured _ _ _ _ _ _ _ (c .before .before .before .before .before .before .before .before .before .before .before .before .before .measure .ensures) (c .before .before .before .before .before .before .before .before .before .before .before .before .admit-place .ensures)) (c .before .before .before .before .before .before .before .before .before .before .before .if1 .left) _ refl _ (c .before .before .before .before .before .before .before .before .find .ensures) _ (c .before .before .before .before .before .before .entry .given .1) _ (c .before .before .before .line-at .ensures) _ (c .value-of .ensures) _ (c .before .recall .ensures),
+)
+
+returns-3 : tie.Need-returns-3
+returns-3 c = (
+  miss-told _ _ _ _ (measured _ _ _ _ _ _ _ (c .before .before .before .before .before .before .before .before .before .before .before .before .before .before .before .before .measure .ensures) (c .before .before .before .before .before .before .before .before .before .before .before .before .before .before .before .admit-place .ensures)) (c .before .before .before .before .before .before .before .before .before .before .before .before .before .before .if1 .left) _ (c .before .before .before .before .before .before .before .before .live .ensures) _ (c .before .before .before .before .before .before .before .before .before .before .before .find .ensures) (c .before .before .before .before .before .before .before .before .before .enum-told .given .1) _ (c .before .before .load .ensures .0) _ (c .value-of2 .ensures) _ (c .before .before .load .ensures .1),
+  λ z. miss-state _ _ _ _ (measured _ _ _ _ _ _ _ (c .before .before .before .before .before .before .before .before .before .before .before .before .before .before .before .before .measure .ensures) (c .before .before .before .before .before .before .before .before .before .before .before .before .before .before .before .admit-place .ensures)) (c .before .before .before .before .before .before .before .before .before .before .before .before .before .before .if1 .left) _ (c .before .before .before .before .before .before .before .before .live .ensures) _ (c .before .before .before .before .before .before .before .before .before .before .before .find .ensures) (c .before .before .before .before .before .before .before .before .before .enum-told .given .1) _ (c .before .before .load .ensures .0) _ (c .value-of2 .ensures) _ (c .before .before .load .ensures .1),
 )
 
 pub read-spec : {M : Type 1} → statement M
-read-spec = tie.close (tie.spec measure-requires admit-place-requires returns live-requires latest-requires used-requires value-of-requires returns-2)
+read-spec =
+    tie.close
+    (tie.spec
+    measure-requires
+    admit-place-requires
+    returns
+    find-requires
+    enum-known-entry
+    line-at-requires
+    recall-requires
+    value-of-requires
+    enum-told
+    live-requires
+    load-requires
+    value-of-requires-2
+    returns-2
+    returns-3)

@@ -6,16 +6,15 @@ use Rattle.frames.proofs.Lists.{rewrite-next}
 use lib.ListN.{getD}
 use Rattle.frames.specs.Lists.{rewrite}
 use Rattle.cache.specs.Steps.{flagAfter}
-use Rattle.cache.proofs.Figure.{forgotten-told}
 use borrow.Author.Needs.{needs}
 use Rattle.cache.proofs.forget.Statement.{statement}
 use Rattle.cache.proofs.forget.Tie as tie
 
 abbrev Inv-loop : tie.InvT-loop
-Inv-loop cache omf frames kept held valid₀ i₀ valid i = (i ≤ 32) × (valid ≡ rewrite i (λ e flag. flagAfter omf frames kept (getD held e 0) flag) valid₀)
+Inv-loop origins valid₀ omf frames kept i₀ valid i = (i ≤ 32) × (valid ≡ rewrite i (λ e flag. flagAfter omf frames kept (getD origins e 0) flag) valid₀)
 
 abbrev μ-loop : tie.MeasureT-loop
-μ-loop cache omf frames kept held valid₀ i₀ valid i = 32 - i
+μ-loop origins valid₀ omf frames kept i₀ valid i = 32 - i
 
 loop-holds : tie.Need-loop-holds Inv-loop μ-loop
 unfolding rewrite
@@ -24,17 +23,17 @@ loop-holds c = (search needs, refl)
 mul-flag-after : tie.Need-mul-flag-after Inv-loop μ-loop
 mul-flag-after c = search needs
 
-array-read-flag-after : tie.Need-array-read-flag-after Inv-loop μ-loop
-array-read-flag-after c = search needs
+element-copy-out-flag-after : tie.Need-element-copy-out-flag-after Inv-loop μ-loop
+element-copy-out-flag-after c = search needs
 
-array-read-flag-after-2 : tie.Need-array-read-flag-after-2 Inv-loop μ-loop
-array-read-flag-after-2 c = search needs
+element-copy-out-flag-after-2 : tie.Need-element-copy-out-flag-after-2 Inv-loop μ-loop
+element-copy-out-flag-after-2 c = search needs
 
 flag-after-requires : tie.Need-flag-after-requires Inv-loop μ-loop
 flag-after-requires c κs = search needs
 
-array-write-valid : tie.Need-array-write-valid Inv-loop μ-loop
-array-write-valid c = search needs
+element-write-valid : tie.Need-element-write-valid Inv-loop μ-loop
+element-write-valid c = search needs
 
 add-i : tie.Need-add-i Inv-loop μ-loop
 add-i c = search needs
@@ -43,10 +42,10 @@ loop-less : tie.Need-loop-less Inv-loop μ-loop
 loop-less c = search needs
 
 loop-again : tie.Need-loop-again Inv-loop μ-loop
-loop-again c = (search needs, rewrite-next _ _ _ _ _ (c .before .before .loop .inv .1) (c .flag-after .ensures))
+loop-again c = (search needs, rewrite-next _ _ _ _ _ (c .before .before .before .before .loop .inv .1) (c .flag-after .ensures))
 
 returns : tie.Need-returns Inv-loop μ-loop
-returns c = forgotten-told _ _ (record { lines = search needs; frames = search needs; valid = search needs; bytes = search needs; last = search needs }) _ _ _ (search forgotten-done)
+returns c = search forgotten-done
 
 pub forget-spec : {M : Type 1} → statement M
 forget-spec =
@@ -56,10 +55,10 @@ forget-spec =
     μ-loop
     loop-holds
     mul-flag-after
-    array-read-flag-after
-    array-read-flag-after-2
+    element-copy-out-flag-after
+    element-copy-out-flag-after-2
     flag-after-requires
-    array-write-valid
+    element-write-valid
     add-i
     loop-less
     loop-again

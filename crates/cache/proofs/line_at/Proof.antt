@@ -13,6 +13,9 @@ Inv-loop bytes entry from line₀ i₀ line i = Read bytes line₀ line from i
 abbrev μ-loop : tie.MeasureT-loop
 μ-loop bytes entry from line₀ i₀ line i = 16 - i
 
+has-all-requires : tie.Need-has-all-requires Inv-loop μ-loop
+has-all-requires c κs = search needs
+
 mul-from : tie.Need-mul-from Inv-loop μ-loop
 mul-from c = search needs
 
@@ -47,6 +50,7 @@ line-at-spec =
     (tie.spec
     Inv-loop
     μ-loop
+    has-all-requires
     mul-from
     loop-holds
     add-line

@@ -12,6 +12,9 @@ Inv-loop bytes₀ entry line from i₀ bytes i = Copied bytes₀ line bytes (16 
 abbrev μ-loop : tie.MeasureT-loop
 μ-loop bytes₀ entry line from i₀ bytes i = 16 - i
 
+has-all-requires : tie.Need-has-all-requires Inv-loop μ-loop
+has-all-requires c κs = search needs
+
 mul-from : tie.Need-mul-from Inv-loop μ-loop
 mul-from c = search needs
 
@@ -45,6 +48,7 @@ set-bytes-spec =
     (tie.spec
     Inv-loop
     μ-loop
+    has-all-requires
     mul-from
     loop-holds
     array-read-bytes

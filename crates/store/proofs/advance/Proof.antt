@@ -1,17 +1,10 @@
 -- `store::advance` meets its contract. Assumes nothing.
 use borrow.Author.Needs.{needs}
-use native.Mathlib.Omega.{arith}
-use Rattle.storage.proofs.Admitting.{room-circle, room-lent}
-use Rattle.storage.proofs.Chains.{measured, frames-room}
-use Rattle.storage.proofs.Collecting.{fold-asks, advance-refused, advance-collects}
 use Rattle.store.proofs.advance.Statement.{statement}
 use Rattle.store.proofs.advance.Tie as tie
 
-measure-requires : tie.Need-measure-requires
-measure-requires c κs = search needs
-
-admit-frames-requires : tie.Need-admit-frames-requires
-admit-frames-requires c κs = search needs
+advance-requires : tie.Need-advance-requires
+advance-requires c κs = search needs
 
 same-length : tie.Need-same-length
 same-length c = search needs
@@ -23,73 +16,8 @@ same-length-3 : tie.Need-same-length-3
 same-length-3 c = search needs
 
 returns : tie.Need-returns
-returns c = (advance-refused _ _ _ (measured _ _ _ _ _ _ _ (c .before .before .measure .ensures) (c .before .admit-frames .ensures)) (c .if1 .taken), λ z. absurd (c .if1 .taken z))
-
-fold-requires : tie.Need-fold-requires
-fold-requires c κs = fold-asks _ _ _ _ _ _ _ _ _ _ (frames-room _ _ _ _ _ _ (measured _ _ _ _ _ _ _ (c .before .before .before .before .before .measure .ensures) (c .before .before .before .before .admit-frames .ensures)) (c .before .before .before .if1 .left))
-
-cast-advance : tie.Need-cast-advance
-cast-advance c =
-    let g = frames-room _ _ _ _ _ _ (measured _ _ _ _ _ _ _ (c .before .before .before .before .before .before .before .before .before .before .measure .ensures) (c .before .before .before .before .before .before .before .before .before .admit-frames .ensures)) (c .before .before .before .before .before .before .before .before .if1 .left) in
-    omega (arith, g .k-low, g .live-most, g .room .good .frames-to)
-
-advance-requires : tie.Need-advance-requires
-advance-requires c κs =
-    let g = frames-room _ _ _ _ _ _ (measured _ _ _ _ _ _ _ (c .before .before .before .before .before .before .before .before .before .before .measure .ensures) (c .before .before .before .before .before .before .before .before .before .admit-frames .ensures)) (c .before .before .before .before .before .before .before .before .if1 .left) in
-    (room-lent _ _ _ _ _ _ _ _ _ (g .room), omega (arith, g .k-low, g .live-some, g .live-most))
-
-add-omf : tie.Need-add-omf
-add-omf c =
-    let g = frames-room _ _ _ _ _ _ (measured _ _ _ _ _ _ _ (c .before .before .before .before .before .before .before .before .before .before .before .before .before .before .before .before .before .measure .ensures) (c .before .before .before .before .before .before .before .before .before .before .before .before .before .before .before .before .admit-frames .ensures)) (c .before .before .before .before .before .before .before .before .before .before .before .before .before .before .before .if1 .left) in
-    omega (arith, g .k-low, g .live-most, g .room .fits .omf-below, g .room .good .frames-to)
-
-rem-omf : tie.Need-rem-omf
-rem-omf c =
-    let g = frames-room _ _ _ _ _ _ (measured _ _ _ _ _ _ _ (c .before .before .before .before .before .before .before .before .before .before .before .before .before .before .before .before .before .before .measure .ensures) (c .before .before .before .before .before .before .before .before .before .before .before .before .before .before .before .before .before .admit-frames .ensures)) (c .before .before .before .before .before .before .before .before .before .before .before .before .before .before .before .before .if1 .left) in
-    omega (arith, g .room .fits .omf-below)
-
-collect-requires : tie.Need-collect-requires
-collect-requires c κs =
-    let g = frames-room _ _ _ _ _ _ (measured _ _ _ _ _ _ _ (c .before .before .before .before .before .before .before .before .before .before .before .before .before .before .before .before .before .before .measure .ensures) (c .before .before .before .before .before .before .before .before .before .before .before .before .before .before .before .before .before .admit-frames .ensures)) (c .before .before .before .before .before .before .before .before .before .before .before .before .before .before .before .before .if1 .left) in
-    room-circle _ _ _ _ (g .room)
-
-state-with-requires : tie.Need-state-with-requires
-state-with-requires c κs = search needs
-
-same-length-4 : tie.Need-same-length-4
-same-length-4 c = c .before .before .before .before .before .before .before .before .before .before .before .before .before .archive .given
-
-same-length-5 : tie.Need-same-length-5
-same-length-5 c = search needs
-
-same-length-6 : tie.Need-same-length-6
-same-length-6 c = search needs
-
-returns-2 : tie.Need-returns-2
-returns-2 c =
-    let p =
-    advance-collects _ _ _ (measured _ _ _ _ _ _ _ (c .before .before .before .before .before .before .before .before .before .before .before .before .before .before .before .before .before .before .before .before .measure .ensures) (c .before .before .before .before .before .before .before .before .before .before .before .before .before .before .before .before .before .before .before .admit-frames .ensures)) (c .before .before .before .before .before .before .before .before .before .before .before .before .before .before .before .before .before .before .if1 .left) _ _ _ (c .before .before .before .before .before .before .before .before .before .before .before .before .before .before .fold .ensures) (c .before .before .before .before .before .before .before .before .before .advance .ensures .0) (c .before .before .before .before .before .before .before .before .before .advance .ensures .1) _ _ (c .before .collect .ensures .0) (c .state-with .ensures)
-    in
-    (p .0, λ z. p .1)
+returns c = c .before .before .before .before .before .before .before .advance .ensures _ _ _ _
 
 pub advance-spec : {M : Type 1} → statement M
 advance-spec =
-    tie.close
-    (tie.spec
-    measure-requires
-    admit-frames-requires
-    same-length
-    same-length-2
-    same-length-3
-    returns
-    fold-requires
-    cast-advance
-    advance-requires
-    add-omf
-    rem-omf
-    collect-requires
-    state-with-requires
-    same-length-4
-    same-length-5
-    same-length-6
-    returns-2)
+    tie.close (tie.spec advance-requires same-length same-length-2 same-length-3 returns)

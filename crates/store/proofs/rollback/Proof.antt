@@ -1,17 +1,10 @@
 -- `store::rollback` meets its contract. Assumes nothing.
 use borrow.Author.Needs.{needs}
-use native.Mathlib.Omega.{arith}
-use Rattle.storage.proofs.Admitting.{room-turn, room-circle, room-lent}
-use Rattle.storage.proofs.Chains.{measured, frames-room}
-use Rattle.storage.proofs.Rolling.{rollback-refused, rollback-drops}
 use Rattle.store.proofs.rollback.Statement.{statement}
 use Rattle.store.proofs.rollback.Tie as tie
 
-measure-requires : tie.Need-measure-requires
-measure-requires c κs = search needs
-
-admit-frames-requires : tie.Need-admit-frames-requires
-admit-frames-requires c κs = search needs
+rollback-requires : tie.Need-rollback-requires
+rollback-requires c κs = search needs
 
 same-length : tie.Need-same-length
 same-length c = search needs
@@ -20,80 +13,7 @@ same-length-2 : tie.Need-same-length-2
 same-length-2 c = search needs
 
 returns : tie.Need-returns
-returns c = (rollback-refused _ _ _ (measured _ _ _ _ _ _ _ (c .before .before .measure .ensures) (c .before .admit-frames .ensures)) (c .if1 .taken), λ z. absurd (c .if1 .taken z))
-
-live-requires : tie.Need-live-requires
-live-requires c κs = room-turn _ _ _ _ (frames-room _ _ _ _ _ _ (measured _ _ _ _ _ _ _ (c .before .before .measure .ensures) (c .before .admit-frames .ensures)) (c .if1 .left) .room)
-
-sub-kept : tie.Need-sub-kept
-sub-kept c =
-    let g = frames-room _ _ _ _ _ _ (measured _ _ _ _ _ _ _ (c .before .before .before .measure .ensures) (c .before .before .admit-frames .ensures)) (c .before .if1 .left) in
-    omega (arith, g .k-low, c .live .ensures)
-
-cast-rollback : tie.Need-cast-rollback
-cast-rollback c =
-    let g = frames-room _ _ _ _ _ _ (measured _ _ _ _ _ _ _ (c .before .before .before .before .before .before .measure .ensures) (c .before .before .before .before .before .admit-frames .ensures)) (c .before .before .before .before .if1 .left) in
-    omega (arith, g .live-most, g .room .good .frames-to, c .before .before .before .live .ensures)
-
-rollback-requires : tie.Need-rollback-requires
-rollback-requires c κs =
-    let g = frames-room _ _ _ _ _ _ (measured _ _ _ _ _ _ _ (c .before .before .before .before .before .before .measure .ensures) (c .before .before .before .before .before .admit-frames .ensures)) (c .before .before .before .before .if1 .left) in
-    (room-lent _ _ _ _ _ _ _ _ _ (g .room), omega arith)
-
-add-cmf : tie.Need-add-cmf
-add-cmf c =
-    let g = frames-room _ _ _ _ _ _ (measured _ _ _ _ _ _ _ (c .before .before .before .before .before .before .before .before .before .before .before .before .before .measure .ensures) (c .before .before .before .before .before .before .before .before .before .before .before .before .admit-frames .ensures)) (c .before .before .before .before .before .before .before .before .before .before .before .if1 .left) in
-    omega (arith, g .room .fits .cmf-below, g .room .good .frames-to)
-
-sub-cmf : tie.Need-sub-cmf
-sub-cmf c =
-    let g = frames-room _ _ _ _ _ _ (measured _ _ _ _ _ _ _ (c .before .before .before .before .before .before .before .before .before .before .before .before .before .measure .ensures) (c .before .before .before .before .before .before .before .before .before .before .before .before .admit-frames .ensures)) (c .before .before .before .before .before .before .before .before .before .before .before .if1 .left) in
-    omega (arith, g .k-low, g .live-most)
-
-rem-cmf : tie.Need-rem-cmf
-rem-cmf c =
-    let g = frames-room _ _ _ _ _ _ (measured _ _ _ _ _ _ _ (c .before .before .before .before .before .before .before .before .before .before .before .before .before .before .measure .ensures) (c .before .before .before .before .before .before .before .before .before .before .before .before .before .admit-frames .ensures)) (c .before .before .before .before .before .before .before .before .before .before .before .before .if1 .left) in
-    omega (arith, g .room .fits .cmf-below)
-
-forget-requires : tie.Need-forget-requires
-forget-requires c κs =
-    let g = frames-room _ _ _ _ _ _ (measured _ _ _ _ _ _ _ (c .before .before .before .before .before .before .before .before .before .before .before .before .before .before .measure .ensures) (c .before .before .before .before .before .before .before .before .before .before .before .before .before .admit-frames .ensures)) (c .before .before .before .before .before .before .before .before .before .before .before .before .if1 .left) in
-    room-circle _ _ _ _ (g .room)
-
-state-with-requires : tie.Need-state-with-requires
-state-with-requires c κs = search needs
-
-same-length-3 : tie.Need-same-length-3
-same-length-3 c = search needs
-
-same-length-4 : tie.Need-same-length-4
-same-length-4 c = search needs
-
-returns-2 : tie.Need-returns-2
-returns-2 c =
-    let p =
-    rollback-drops _ _ _ (measured _ _ _ _ _ _ _ (c .before .before .before .before .before .before .before .before .before .before .before .before .before .before .before .before .measure .ensures) (c .before .before .before .before .before .before .before .before .before .before .before .before .before .before .before .admit-frames .ensures)) (c .before .before .before .before .before .before .before .before .before .before .before .before .before .before .if1 .left) _ (omega (arith, c .before .before .before .before .before .before .before .before .before .before .before .before .before .live .ensures)) _ _ _ (c .before .before .before .before .before .before .before .before .before .rollback .ensures) _ _ (c .before .forget .ensures .0) (c .state-with .ensures)
-    in
-    (p .0, λ z. p .1)
+returns c = c .before .before .before .before .before .rollback .ensures _ _ _
 
 pub rollback-spec : {M : Type 1} → statement M
-rollback-spec =
-    tie.close
-    (tie.spec
-    measure-requires
-    admit-frames-requires
-    same-length
-    same-length-2
-    returns
-    live-requires
-    sub-kept
-    cast-rollback
-    rollback-requires
-    add-cmf
-    sub-cmf
-    rem-cmf
-    forget-requires
-    state-with-requires
-    same-length-3
-    same-length-4
-    returns-2)
+rollback-spec = tie.close (tie.spec rollback-requires same-length same-length-2 returns)

@@ -12,7 +12,7 @@ enum-known-entry : tie.Need-enum-known-entry
 enum-known-entry c = search needs
 
 line-at-requires : tie.Need-line-at-requires
-line-at-requires c κs = (found-below _ _ _ _ _ (c .before .before .before .find .ensures) (c .before .entry .given .1), search needs)
+line-at-requires c κs = found-below _ _ _ _ _ (c .before .before .before .find .ensures) (c .before .entry .given .1)
 
 frame-of-requires : tie.Need-frame-of-requires
 frame-of-requires c κs = found-below _ _ _ _ _ (c .before .before .before .before .find .ensures) (c .before .before .entry .given .1)

@@ -12,6 +12,9 @@ use written::Written;
 
 type Line = [u8; 16];
 
+/// Lines that ADVANCE passes over together.
+const SPAN: usize = 64;
+
 /// A value of 1, 2 or 4 bytes, most significant byte first.
 #[inline]
 fn value_of(line: &Line, width: u32, offset: usize) -> u32 {
@@ -197,15 +200,30 @@ impl Chip {
         Ok(())
     }
 
+    /// Copies the newest versions of the k oldest frames to the archive, in the blocks that have any.
+    fn fold_blocks(&mut self, first: u32, end: u32, k: u32) {
+        for block in (first..end).step_by(8) {
+            if self.written.is_blank(block, 8, k) {
+                continue;
+            }
+            for line in block..block + 8 {
+                if let Some(index) = self.written.newest(line, k - 1) {
+                    let frame = self.written.frame_at(index);
+                    let page = self.table[self.place(frame, line / 8)];
+                    self.archive[line as usize] = self.pool[usize::from(page)][line as usize % 8];
+                }
+            }
+        }
+    }
+
     fn advance(&mut self, k: u32) -> Result<(), Refusal> {
         if k == 0 || k >= self.live {
             return Err(Refusal::Marks);
         }
-        for line in 0..self.lines {
-            if let Some(index) = self.written.newest(line, k - 1) {
-                let frame = self.written.frame_at(index);
-                let page = self.table[self.place(frame, line / 8)];
-                self.archive[line as usize] = self.pool[usize::from(page)][line as usize % 8];
+        for first in (0..self.lines).step_by(SPAN) {
+            let count = (self.lines - first).min(SPAN as u32);
+            if !self.written.is_blank(first, count, k) {
+                self.fold_blocks(first, first + count, k);
             }
         }
         let written = &self.written;

@@ -96,6 +96,21 @@ impl Written {
             .any(|group| group.bits & (1 << (frame % 16)) != 0 && index < self.bound(*group))
     }
 
+    /// Whether so many lines have no bit at all in the areas of the k oldest frames.
+    pub fn is_blank(&self, first: u32, count: u32, k: u32) -> bool {
+        let mut i = 0;
+        while i < k {
+            let frame = self.frame_at(i);
+            let at = self.place(frame, first);
+            let groups = &self.groups[at..at + count as usize];
+            if groups.iter().fold(0, |all, group| all | group.bits) != 0 {
+                return false;
+            }
+            i += 16 - frame % 16;
+        }
+        true
+    }
+
     /// The bits of an area whose index lies below a bound.
     fn below(&self, area: u32, bound: u32) -> u16 {
         let first = self.index_of(16 * area);

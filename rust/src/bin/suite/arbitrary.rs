@@ -59,12 +59,15 @@ fn writes(call: Call) -> &'static [&'static str] {
 
 /// CMF and OMF after an accepted call.
 fn registers(state: &State, call: Call) -> (u32, u32) {
-    let frames = state.frames;
+    let frames = state.registers.frames;
     match call {
-        Call::Mark => ((state.cmf + 1) % frames, state.omf),
-        Call::Rollback(k) => ((state.cmf + frames - k) % frames, state.omf),
-        Call::Advance(k) => (state.cmf, (state.omf + k) % frames),
-        _ => (state.cmf, state.omf),
+        Call::Mark => ((state.registers.cmf + 1) % frames, state.registers.omf),
+        Call::Rollback(k) => (
+            (state.registers.cmf + frames - k) % frames,
+            state.registers.omf,
+        ),
+        Call::Advance(k) => (state.registers.cmf, (state.registers.omf + k) % frames),
+        _ => (state.registers.cmf, state.registers.omf),
     }
 }
 
@@ -153,7 +156,9 @@ impl Judge {
             }
             _ => match known.history {
                 Some(plain) => {
-                    if (stored.state.cmf, stored.state.omf) != registers(&before.state, call) {
+                    if (stored.state.registers.cmf, stored.state.registers.omf)
+                        != registers(&before.state, call)
+                    {
                         return fail("CMF or OMF is wrong".to_string());
                     }
                     plain
@@ -216,12 +221,10 @@ impl Judge {
 /// "RESET(L, F, P): archive all zero, one live frame, no written bits, all pages free, cache empty." Every field and every element.
 fn is_fresh(stored: &Stored, before: &Stored, asked: Settings) -> Result<(), &'static str> {
     let need = Lengths::of(asked);
-    let fresh = State {
-        lines: asked.lines,
-        frames: asked.frames,
-        pages: asked.pages,
-        ..calls::blank()
-    };
+    let mut fresh = calls::blank();
+    fresh.registers.lines = asked.lines;
+    fresh.registers.frames = asked.frames;
+    fresh.registers.pages = asked.pages;
     if stored.state != fresh {
         return Err("the state is not that of an empty store");
     }

@@ -101,28 +101,25 @@ impl Answer {
     }
 }
 
-/// The library's answer. The state becomes the one that the call gives back; a call that gives none leaves it.
+/// The library's answer. The state and the memory become those that the call leaves.
 pub fn ask(state: &mut State, memory: &mut Memory, call: Call, tally: &mut Tally) -> Answer {
     let answer = match call {
         Call::Reset {
             lines,
             frames,
             pages,
-        } => outcome(
-            state,
-            calls::reset(state, &mut memory.lent(), lines, frames, pages),
-        ),
+        } => Answer::Outcome {
+            refusal: calls::reset(state, &mut memory.lent(), lines, frames, pages),
+        },
         Call::Write {
             width,
             address,
             value,
-        } => outcome(
-            state,
-            calls::write(state, &mut memory.lent(), width, address, value),
-        ),
+        } => Answer::Outcome {
+            refusal: calls::write(state, &mut memory.lent(), width, address, value),
+        },
         Call::Read { width, address } => {
             let reading = calls::read(state, memory.shown(), width, address);
-            *state = reading.state;
             Answer::Reading {
                 refusal: reading.refusal,
                 value: reading.value,
@@ -148,9 +145,15 @@ pub fn ask(state: &mut State, memory: &mut Memory, call: Call, tally: &mut Tally
         Call::LineRefusal(number) => Answer::Outcome {
             refusal: calls::line_refusal(state, memory.shown(), number),
         },
-        Call::Mark => outcome(state, calls::mark(state, memory.shown())),
-        Call::Rollback(k) => outcome(state, calls::rollback(state, &mut memory.lent(), k)),
-        Call::Advance(k) => outcome(state, calls::advance(state, &mut memory.lent(), k)),
+        Call::Mark => Answer::Outcome {
+            refusal: calls::mark(state, memory.shown()),
+        },
+        Call::Rollback(k) => Answer::Outcome {
+            refusal: calls::rollback(state, &mut memory.lent(), k),
+        },
+        Call::Advance(k) => Answer::Outcome {
+            refusal: calls::advance(state, &mut memory.lent(), k),
+        },
         Call::Counts => {
             let counted = calls::counts(state, memory.shown());
             Answer::Counting {
@@ -169,15 +172,8 @@ pub fn ask(state: &mut State, memory: &mut Memory, call: Call, tally: &mut Tally
     };
     tally.count(call, &answer);
     // the tags start afresh with a sweep
-    if matches!(call, Call::Rollback(_)) && answer.refusal() == 0 && state.tag == 0 {
+    if matches!(call, Call::Rollback(_)) && answer.refusal() == 0 && state.registers.tag == 0 {
         tally.sweeps += 1;
     }
     answer
-}
-
-fn outcome(state: &mut State, outcome: vcm::numbers::Outcome) -> Answer {
-    *state = outcome.state;
-    Answer::Outcome {
-        refusal: outcome.refusal,
-    }
 }

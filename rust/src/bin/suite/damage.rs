@@ -6,9 +6,9 @@ use crate::wellformed::{tag_of, ARCHIVE, OPEN};
 impl Stored {
     /// Damage where it should not matter.
     pub fn harmless(&mut self, rng: &Rng) {
-        let tag = self.state.tag as usize;
+        let tag = self.state.registers.tag as usize;
         match rng.below(13) {
-            0 => self.state.hint = rng.odd_word(),
+            0 => self.state.registers.hint = rng.odd_word(),
             // entries of tags not used yet
             1 => {
                 let history = self.memory.history.get_mut();
@@ -34,7 +34,7 @@ impl Stored {
             5 => {
                 if let Some((index, block)) = self.place_of(rng, false) {
                     let at = self.table_place(index, block);
-                    let pages = self.state.pages;
+                    let pages = self.state.registers.pages;
                     self.memory.table.get_mut()[at] =
                         rng.pick(&[rng.short(), pages as u16, rng.below(pages) as u16]);
                 }
@@ -42,7 +42,7 @@ impl Stored {
             // the owner of a page that is not held
             6 => {
                 if let Some(page) = self.free_page(rng) {
-                    let places = self.state.frames * (self.state.lines / 8);
+                    let places = self.state.registers.frames * (self.state.registers.lines / 8);
                     self.memory.owners.get_mut()[page as usize] =
                         rng.pick(&[rng.word(), places, rng.below(places)]);
                 }
@@ -60,7 +60,7 @@ impl Stored {
             9 => {
                 if let Some(entry) = self.entry_of(rng, false) {
                     let cache = &mut self.state.cache;
-                    cache.lines[entry] = rng.below(2 * self.state.lines);
+                    cache.lines[entry] = rng.below(2 * self.state.registers.lines);
                     cache.frames[entry] = rng.short();
                     cache.valid[entry] = rng.pick(&[0, 2, 3, 255]);
                     cache.bytes[16 * entry + rng.place(16)] ^= 0xFF;
@@ -69,9 +69,10 @@ impl Stored {
             10 => self.state.cache.last[rng.place(16)] = rng.pick(&[0, 1, 2, 255]),
             // one more valid entry, in its place and right
             11 => {
-                if let (Some(entry), line) =
-                    (self.entry_of(rng, false), rng.below(self.state.lines))
-                {
+                if let (Some(entry), line) = (
+                    self.entry_of(rng, false),
+                    rng.below(self.state.registers.lines),
+                ) {
                     let is_held = (0..32).any(|e| {
                         self.state.cache.valid[e] == 1 && self.state.cache.lines[e] == line
                     });
@@ -96,12 +97,15 @@ impl Stored {
     /// Sets a bit that the history masks.
     fn stale_bit(&mut self, rng: &Rng) {
         let storage = self.storage();
-        let (index, line) = (rng.below(self.state.frames), rng.below(self.state.lines));
+        let (index, line) = (
+            rng.below(self.state.registers.frames),
+            rng.below(self.state.registers.lines),
+        );
         let frame = storage.frame_at(index);
         let at = storage.group_place(frame, line);
         let group = storage.memory.groups[at];
         let bound = u32::from(storage.memory.history[tag_of(group)]);
-        if index >= bound && (group >> 16 & 0xFF) <= self.state.tag {
+        if index >= bound && (group >> 16 & 0xFF) <= self.state.registers.tag {
             self.memory.groups.get_mut()[at] |= 1 << (frame % 16);
         }
     }
@@ -115,8 +119,8 @@ impl Stored {
                 let value = rng.pick(&near) as u16;
                 let history = self.memory.history.get_mut();
                 let at = match rng.below(3) {
-                    0 => self.state.tag.min(255) as usize,
-                    1 => rng.below(self.state.tag.min(255) + 1) as usize,
+                    0 => self.state.registers.tag.min(255) as usize,
+                    1 => rng.below(self.state.registers.tag.min(255) + 1) as usize,
                     _ => rng.place(history.len()),
                 };
                 history[at] = rng.pick(&[value, rng.short(), history[at].wrapping_add(1)]);
@@ -130,13 +134,13 @@ impl Stored {
                 groups[at] = rng.pick(&[bit, bit, tag, rng.word(), 0]);
             }
             2 => {
-                let pages = self.state.pages;
+                let pages = self.state.registers.pages;
                 let table = self.memory.table.get_mut();
                 let at = rng.place(table.len());
                 table[at] = rng.pick(&[rng.below(pages) as u16, pages as u16, rng.short()]);
             }
             3 => {
-                let places = self.state.frames * (self.state.lines / 8);
+                let places = self.state.registers.frames * (self.state.registers.lines / 8);
                 let owners = self.memory.owners.get_mut();
                 let at = rng.place(owners.len());
                 owners[at] = rng.pick(&[rng.below(places), places, rng.word()]);
@@ -155,30 +159,33 @@ impl Stored {
                 match rng.below(4) {
                     0 => {
                         cache.lines[entry] =
-                            rng.pick(&[rng.below(self.state.lines), rng.odd_word()])
+                            rng.pick(&[rng.below(self.state.registers.lines), rng.odd_word()])
                     }
                     1 => {
-                        cache.frames[entry] =
-                            rng.pick(&[rng.below(self.state.frames) as u16, ARCHIVE, rng.short()])
+                        cache.frames[entry] = rng.pick(&[
+                            rng.below(self.state.registers.frames) as u16,
+                            ARCHIVE,
+                            rng.short(),
+                        ])
                     }
                     2 => cache.valid[entry] = rng.pick(&[0, 1, 2, 255]),
                     _ => cache.bytes[rng.place(512)] ^= 1 << rng.below(8),
                 }
             }
             7 => {
-                let frames = self.state.frames;
+                let frames = self.state.registers.frames;
                 let value = rng.pick(&[rng.below(frames), frames, rng.odd_word()]);
                 if rng.one_in(2) {
-                    self.state.cmf = value;
+                    self.state.registers.cmf = value;
                 } else {
-                    self.state.omf = value;
+                    self.state.registers.omf = value;
                 }
             }
             8 => {
-                self.state.tag = rng.pick(&[
+                self.state.registers.tag = rng.pick(&[
                     0,
-                    self.state.tag.wrapping_sub(1),
-                    self.state.tag + 1,
+                    self.state.registers.tag.wrapping_sub(1),
+                    self.state.registers.tag + 1,
                     255,
                     256,
                     rng.odd_word(),
@@ -189,21 +196,29 @@ impl Stored {
                 let state = &mut self.state;
                 match field {
                     0 => {
-                        state.lines = rng.pick(&[
+                        state.registers.lines = rng.pick(&[
                             8,
-                            state.lines - 8,
-                            state.lines + 8,
-                            state.lines + 1,
+                            state.registers.lines - 8,
+                            state.registers.lines + 8,
+                            state.registers.lines + 1,
                             rng.odd_word(),
                         ])
                     }
                     1 => {
-                        state.frames =
-                            rng.pick(&[16, state.frames - 16, state.frames + 16, rng.odd_word()])
+                        state.registers.frames = rng.pick(&[
+                            16,
+                            state.registers.frames - 16,
+                            state.registers.frames + 16,
+                            rng.odd_word(),
+                        ])
                     }
                     _ => {
-                        state.pages =
-                            rng.pick(&[1, state.pages - 1, state.pages + 1, rng.odd_word()])
+                        state.registers.pages = rng.pick(&[
+                            1,
+                            state.registers.pages - 1,
+                            state.registers.pages + 1,
+                            rng.odd_word(),
+                        ])
                     }
                 }
             }
@@ -212,7 +227,7 @@ impl Stored {
 
     /// Damage that only one clause of well-formedness notices, where the storage has the place for it.
     pub fn aimed(&mut self, rng: &Rng) {
-        let tag = self.state.tag;
+        let tag = self.state.registers.tag;
         match rng.below(13) {
             0 => {
                 // a tag of 9 bits, with an open entry past the need
@@ -220,7 +235,7 @@ impl Stored {
                 let history = self.memory.history.get_mut();
                 let top = rng.between(256, history.len() as u32 - 1);
                 history[tag as usize + 1..=top as usize].fill(OPEN);
-                self.state.tag = top;
+                self.state.registers.tag = top;
             }
             1 => self.tag_ahead(rng),
             2 => self.memory.history.get_mut()[tag as usize] = rng.pick(&[OPEN - 1, 256, 300]),
@@ -235,7 +250,7 @@ impl Stored {
                 if let Some((index, block)) = self.place_of(rng, true) {
                     self.lengthen(rng);
                     let place = self.table_place(index, block);
-                    self.move_page(place, self.state.pages);
+                    self.move_page(place, self.state.registers.pages);
                 }
             }
             6 => {
@@ -247,14 +262,14 @@ impl Stored {
                 }
             }
             7 => {
-                let (entry, line) = (rng.place(32), rng.below(self.state.lines));
+                let (entry, line) = (rng.place(32), rng.below(self.state.registers.lines));
                 if line as usize % 16 != entry / 2 {
                     self.fill_entry(entry, line);
                 }
             }
             8 => {
                 let entry = rng.place(32);
-                let line = self.state.lines.next_multiple_of(16) + (entry / 2) as u32;
+                let line = self.state.registers.lines.next_multiple_of(16) + (entry / 2) as u32;
                 let line = line + 16 * rng.below(3);
                 self.fill_entry(entry, rng.pick(&[line, u32::MAX - 15 + (entry / 2) as u32]));
             }
@@ -270,9 +285,13 @@ impl Stored {
             }
             11 => {
                 if let Some(entry) = self.entry_of(rng, true) {
-                    let frame = rng.below(self.state.frames) as u16;
-                    self.state.cache.frames[entry] =
-                        rng.pick(&[frame, ARCHIVE, ARCHIVE - 1, self.state.frames as u16]);
+                    let frame = rng.below(self.state.registers.frames) as u16;
+                    self.state.cache.frames[entry] = rng.pick(&[
+                        frame,
+                        ARCHIVE,
+                        ARCHIVE - 1,
+                        self.state.registers.frames as u16,
+                    ]);
                 }
             }
             _ => {
@@ -296,9 +315,9 @@ impl Stored {
         let Some(at) = places.find(|at| groups[*at] & 0xFFFF != 0) else {
             return;
         };
-        if self.state.tag < 255 {
+        if self.state.registers.tag < 255 {
             let group = groups[at];
-            let ahead = rng.between(self.state.tag + 1, 255);
+            let ahead = rng.between(self.state.registers.tag + 1, 255);
             let history = self.memory.history.get_mut();
             history[ahead as usize] = history[tag_of(group)];
             self.memory.groups.get_mut()[at] = group & 0xFFFF | ahead << 16;
@@ -311,11 +330,11 @@ impl Stored {
         let Some(page) = self.free_page(rng) else {
             return;
         };
-        if live == self.state.frames {
+        if live == self.state.registers.frames {
             return;
         }
-        let index = rng.between(live, self.state.frames - 1);
-        let line = rng.below(self.state.lines);
+        let index = rng.between(live, self.state.registers.frames - 1);
+        let line = rng.below(self.state.registers.lines);
         let storage = self.storage();
         let frame = storage.frame_at(index);
         let at = storage.group_place(frame, line);
@@ -324,7 +343,7 @@ impl Stored {
         let bound = storage.memory.history[tag_of(group)];
         let groups = self.memory.groups.get_mut();
         if u32::from(bound) <= index || group & 0xFFFF == 0 {
-            groups[at] = self.state.tag << 16;
+            groups[at] = self.state.registers.tag << 16;
         }
         groups[at] |= 1 << (frame % 16);
         self.memory.table.get_mut()[place] = page as u16;

@@ -45,11 +45,17 @@ fn bad_state(rng: &Rng, state: &State) -> State {
     let mut bad = *state;
     match rng.below(6) {
         0 => return calls::blank(),
-        1 => bad.cmf = rng.pick(&[state.frames, state.frames + 1, u32::MAX]),
-        2 => bad.omf = rng.pick(&[state.frames, state.frames + 1, u32::MAX]),
-        3 => bad.lines = rng.pick(&[0, state.lines + 1, 4104, u32::MAX]),
-        4 => bad.frames = rng.pick(&[0, state.frames + 1, 272, u32::MAX]),
-        _ => bad.pages = rng.pick(&[0, 4097, u32::MAX]),
+        1 => {
+            bad.registers.cmf =
+                rng.pick(&[state.registers.frames, state.registers.frames + 1, u32::MAX])
+        }
+        2 => {
+            bad.registers.omf =
+                rng.pick(&[state.registers.frames, state.registers.frames + 1, u32::MAX])
+        }
+        3 => bad.registers.lines = rng.pick(&[0, state.registers.lines + 1, 4104, u32::MAX]),
+        4 => bad.registers.frames = rng.pick(&[0, state.registers.frames + 1, 272, u32::MAX]),
+        _ => bad.registers.pages = rng.pick(&[0, 4097, u32::MAX]),
     }
     bad
 }

@@ -28,8 +28,8 @@ impl Stored {
 
     /// An index from OMF and a block of 8 lines, needed or not.
     pub fn place_of(&self, rng: &Rng, is_needed: bool) -> Option<(u32, u32)> {
-        let blocks = self.state.lines / 8;
-        let count = self.state.frames * blocks;
+        let blocks = self.state.registers.lines / 8;
+        let count = self.state.registers.frames * blocks;
         let first = rng.below(count);
         let places =
             (0..count).map(|n| ((first + n) % count / blocks, (first + n) % count % blocks));
@@ -42,17 +42,18 @@ impl Stored {
     /// A page that is the page of no needed place.
     pub fn free_page(&self, rng: &Rng) -> Option<u32> {
         let storage = self.storage();
-        let mut is_held = vec![false; self.state.pages as usize];
-        for index in 0..self.state.frames {
-            for block in 0..self.state.lines / 8 {
+        let mut is_held = vec![false; self.state.registers.pages as usize];
+        for index in 0..self.state.registers.frames {
+            for block in 0..self.state.registers.lines / 8 {
                 if storage.needed(index, block) {
                     let place = storage.table_place(storage.frame_at(index), 8 * block);
                     is_held[usize::from(storage.memory.table[place])] = true;
                 }
             }
         }
-        let first = rng.below(self.state.pages);
-        let mut pages = (0..self.state.pages).map(|n| (first + n) % self.state.pages);
+        let first = rng.below(self.state.registers.pages);
+        let mut pages =
+            (0..self.state.registers.pages).map(|n| (first + n) % self.state.registers.pages);
         pages.find(|page| !is_held[*page as usize])
     }
 
@@ -89,8 +90,10 @@ impl Stored {
     pub fn lengthen(&mut self, rng: &Rng) {
         let mut lengths = self.memory.lengths();
         lengths.history = lengths.history.max(260);
-        lengths.owners = lengths.owners.max(self.state.pages as usize + 1);
-        lengths.pool = lengths.pool.max(128 * (self.state.pages as usize + 1));
+        lengths.owners = lengths.owners.max(self.state.registers.pages as usize + 1);
+        lengths.pool = lengths
+            .pool
+            .max(128 * (self.state.registers.pages as usize + 1));
         self.memory = self.memory.resized(lengths, rng);
     }
 }

@@ -60,21 +60,25 @@ pub const OPEN: u16 = 65535;
 
 pub fn settings_of(state: &State) -> Settings {
     Settings {
-        lines: state.lines,
-        frames: state.frames,
-        pages: state.pages,
+        lines: state.registers.lines,
+        frames: state.registers.frames,
+        pages: state.registers.pages,
     }
 }
 
 /// What the refusals go by on any state and any memory.
 pub fn facts(state: &State, memory: &Memory) -> Facts {
     let settings = settings_of(state);
-    let fits = settings.within() && state.cmf < state.frames && state.omf < state.frames;
+    let fits = settings.within()
+        && state.registers.cmf < state.registers.frames
+        && state.registers.omf < state.registers.frames;
     Facts {
         settings,
         fits,
         live: if fits {
-            (state.cmf + state.frames - state.omf) % state.frames + 1
+            (state.registers.cmf + state.registers.frames - state.registers.omf)
+                % state.registers.frames
+                + 1
         } else {
             0
         },
@@ -92,19 +96,21 @@ pub struct Storage<'a> {
 impl<'a> Storage<'a> {
     pub fn live(&self) -> u32 {
         let state = self.state;
-        (state.cmf + state.frames - state.omf) % state.frames + 1
+        (state.registers.cmf + state.registers.frames - state.registers.omf)
+            % state.registers.frames
+            + 1
     }
 
     pub fn frame_at(&self, index: u32) -> u32 {
-        (self.state.omf + index) % self.state.frames
+        (self.state.registers.omf + index) % self.state.registers.frames
     }
 
     pub fn group_place(&self, frame: u32, line: u32) -> usize {
-        (frame / 16 * self.state.lines + line) as usize
+        (frame / 16 * self.state.registers.lines + line) as usize
     }
 
     pub fn table_place(&self, frame: u32, line: u32) -> usize {
-        (frame * (self.state.lines / 8) + line / 8) as usize
+        (frame * (self.state.registers.lines / 8) + line / 8) as usize
     }
 
     /// A bit is effective if it is set and the index of its frame from OMF is below the bound of its group's tag.
@@ -139,7 +145,7 @@ impl<'a> Storage<'a> {
 
     /// Frame and bytes of a line's most recent version. Past L there is nothing but zeros.
     pub fn recent(&self, line: u32) -> (u16, Option<&'a [u8]>) {
-        if line >= self.state.lines {
+        if line >= self.state.registers.lines {
             return (ARCHIVE, Some(&[0; 16]));
         }
         match self.newest(line) {
@@ -165,36 +171,40 @@ impl<'a> Storage<'a> {
     fn bits(&self, hold: &mut impl FnMut(Clause, bool)) {
         let state = self.state;
         let entry = |tag: u32| self.memory.history.get(tag as usize).copied().unwrap_or(0);
-        hold(Clause::TagBelow, state.tag < 256);
-        hold(Clause::OpenTag, entry(state.tag) == OPEN);
+        hold(Clause::TagBelow, state.registers.tag < 256);
+        hold(Clause::OpenTag, entry(state.registers.tag) == OPEN);
         // past the end of the list every entry reads 0
-        let used = state.tag.min(self.memory.history.len() as u32);
+        let used = state.registers.tag.min(self.memory.history.len() as u32);
         hold(
             Clause::Ordered,
             (0..used).all(|tag| entry(tag) <= entry(tag + 1)),
         );
-        let count = (state.frames / 16 * state.lines) as usize;
-        let is_known = |group: u32| group & 0xFFFF == 0 || tag_of(group) as u64 <= state.tag.into();
+        let count = (state.registers.frames / 16 * state.registers.lines) as usize;
+        let is_known =
+            |group: u32| group & 0xFFFF == 0 || tag_of(group) as u64 <= state.registers.tag.into();
         let groups = &self.memory.groups[..count];
         hold(
             Clause::TagsKnown,
             groups.iter().all(|group| is_known(*group)),
         );
-        let is_clear = |index| (0..state.lines).all(|line| !self.effective(index, line));
-        hold(Clause::OnlyLive, (self.live()..state.frames).all(is_clear));
+        let is_clear = |index| (0..state.registers.lines).all(|line| !self.effective(index, line));
+        hold(
+            Clause::OnlyLive,
+            (self.live()..state.registers.frames).all(is_clear),
+        );
     }
 
     fn pages(&self, hold: &mut impl FnMut(Clause, bool)) {
         let state = self.state;
-        for index in 0..state.frames {
-            for block in 0..state.lines / 8 {
+        for index in 0..state.registers.frames {
+            for block in 0..state.registers.lines / 8 {
                 if !self.needed(index, block) {
                     continue;
                 }
                 let place = self.table_place(self.frame_at(index), 8 * block);
                 let page = self.memory.table[place];
                 let owner = self.memory.owners.get(usize::from(page)).copied();
-                hold(Clause::PageBelow, u32::from(page) < state.pages);
+                hold(Clause::PageBelow, u32::from(page) < state.registers.pages);
                 hold(Clause::PageOwner, owner.unwrap_or(0) as usize == place);
             }
         }
@@ -208,7 +218,7 @@ impl<'a> Storage<'a> {
             }
             let line = cache.lines[entry];
             let is_in_set = line as usize % 16 == entry / 2;
-            let is_below = line < self.state.lines;
+            let is_below = line < self.state.registers.lines;
             if entry % 2 == 0 {
                 hold(Clause::FirstSet, is_in_set);
                 hold(Clause::FirstBelow, is_below);
@@ -229,12 +239,12 @@ impl<'a> Storage<'a> {
     pub fn history(&self) -> Option<Plain> {
         let state = self.state;
         let mut plain = Plain::new(settings_of(state));
-        plain.base = self.memory.archive[..16 * state.lines as usize].to_vec();
+        plain.base = self.memory.archive[..16 * state.registers.lines as usize].to_vec();
         plain.frames.clear();
         let mut memory = plain.base.clone();
         for index in 0..self.live() {
             let mut frame = Frame::over(memory);
-            for line in 0..state.lines {
+            for line in 0..state.registers.lines {
                 if self.effective(index, line) {
                     frame.write(16 * line as usize, self.version(index, line)?);
                 }

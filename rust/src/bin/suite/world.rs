@@ -8,7 +8,7 @@ use crate::stored::Stored;
 use crate::tally::Tally;
 use crate::wellformed::facts;
 use vcm::calls;
-use vcm::{Cache, State};
+use vcm::{Cache, Registers, State};
 
 pub fn small_settings(rng: &Rng) -> Settings {
     let lines = 8 * rng.pick(&[1, 1, 2, 3, 4, 6, 7, 8, 12]);
@@ -46,7 +46,7 @@ fn any_state(rng: &Rng) -> State {
         cache.last[entry / 2] = rng.pick(&[0, 1, 2, 255]);
     }
     cache.bytes.fill_with(|| rng.word() as u8);
-    State {
+    let registers = Registers {
         lines: rng.odd_word(),
         frames: rng.odd_word(),
         pages: rng.odd_word(),
@@ -54,8 +54,8 @@ fn any_state(rng: &Rng) -> State {
         omf: rng.odd_word(),
         tag: rng.odd_word(),
         hint: rng.odd_word(),
-        cache,
-    }
+    };
+    State { registers, cache }
 }
 
 /// Random state and memory; mostly with settings and registers that let a call pass 5 and 6.
@@ -63,12 +63,12 @@ pub fn random_storage(rng: &Rng) -> Stored {
     let mut state = any_state(rng);
     let settings = small_settings(rng);
     if !rng.one_in(8) {
-        state.lines = settings.lines;
-        state.frames = settings.frames;
-        state.pages = settings.pages;
-        state.cmf = rng.below(settings.frames);
-        state.omf = rng.below(settings.frames);
-        state.tag = rng.pick(&[state.tag, rng.below(256)]);
+        state.registers.lines = settings.lines;
+        state.registers.frames = settings.frames;
+        state.registers.pages = settings.pages;
+        state.registers.cmf = rng.below(settings.frames);
+        state.registers.omf = rng.below(settings.frames);
+        state.registers.tag = rng.pick(&[state.registers.tag, rng.below(256)]);
     }
     let mut lengths = Lengths::of(settings);
     if rng.one_in(4) {

@@ -1,28 +1,29 @@
 -- `pages::lines::value_of` meets its contract. Assumes nothing.
-use Rattle.pages.proofs.Values.{Reading, reading-start, reading-next, reading-end, value-fits}
-use Prim.Native.Nat.{_-_}
-use native.Mathlib.Omega.{arith}
+use mathlib.Core.Logic.{inl, inr}
+use Prim.Native.Nat.{_+_, _-_, min}
+use Rattle.pages.proofs.Values.{Reading, reading-first, reading-more, reading-stays, reading-done, more-fits}
 use borrow.Author.Needs.{needs}
+use native.Mathlib.Omega.{arith}
 use Rattle.pages.proofs.lines.value_of.Statement.{statement}
 use Rattle.pages.proofs.lines.value_of.Tie as tie
 
 abbrev Inv-loop : tie.InvT-loop
-Inv-loop width offset line end at₀ value₀ at value = Reading width offset line at value
+Inv-loop width offset line value₀ i₀ value i = Reading width offset line (offset + min i width) value
 
 abbrev μ-loop : tie.MeasureT-loop
-μ-loop width offset line end at₀ value₀ at value = end - at
-
-add-end : tie.Need-add-end Inv-loop μ-loop
-add-end c = search needs
-
-cast-end : tie.Need-cast-end Inv-loop μ-loop
-cast-end c = search needs
+μ-loop width offset line value₀ i₀ value i = 4 - i
 
 loop-holds : tie.Need-loop-holds Inv-loop μ-loop
-loop-holds c = search reading-start
+loop-holds c = search reading-first
 
-mul-value : tie.Need-mul-value Inv-loop μ-loop
-mul-value c = omega (arith, value-fits (c .before .before .pre) (c .before .loop .inv) (c .loop-test .taken))
+add-least : tie.Need-add-least Inv-loop μ-loop
+add-least c = search needs
+
+least-requires : tie.Need-least-requires Inv-loop μ-loop
+least-requires c κs = search needs
+
+cast-at : tie.Need-cast-at Inv-loop μ-loop
+cast-at c = search needs
 
 array-read-wide : tie.Need-array-read-wide Inv-loop μ-loop
 array-read-wide c = search needs
@@ -30,20 +31,27 @@ array-read-wide c = search needs
 wide-requires : tie.Need-wide-requires Inv-loop μ-loop
 wide-requires c κs = search needs
 
-add-value : tie.Need-add-value Inv-loop μ-loop
-add-value c = omega (arith, c .wide .ensures .1, value-fits (c .before .before .before .pre) (c .before .before .loop .inv) (c .before .loop-test .taken))
+mul-value : tie.Need-mul-value Inv-loop μ-loop
+mul-value c = omega (arith, more-fits (c .before .before .before .before .before .pre) (c .before .before .before .before .loop .inv) (c .if1 .taken))
 
-add-at : tie.Need-add-at Inv-loop μ-loop
-add-at c = search needs
+add-value : tie.Need-add-value Inv-loop μ-loop
+add-value c = omega (arith, c .before .wide .ensures .1, more-fits (c .before .before .before .before .before .pre) (c .before .before .before .before .loop .inv) (c .if1 .taken))
+
+add-i : tie.Need-add-i Inv-loop μ-loop
+add-i c = search needs
 
 loop-less : tie.Need-loop-less Inv-loop μ-loop
 loop-less c = search needs
 
 loop-again : tie.Need-loop-again Inv-loop μ-loop
-loop-again c = search (needs, reading-next)
+loop-again c =
+    elim (c .if1 .came) [
+      | inl p ↦ reading-more (c .before .before .before .before .before .pre) (c .before .before .before .before .loop .inv) (p .0 .taken) (search needs) _ _ (c .before .before .least .ensures) (c .before .wide .ensures) _ (p .1)
+      | inr p ↦ reading-stays (c .before .before .before .before .before .pre) (c .before .before .before .before .loop .inv) (p .0 .left) _ (p .1)
+    ]
 
 returns : tie.Need-returns Inv-loop μ-loop
-returns c = search (needs, reading-end)
+returns c = search (needs, reading-done)
 
 pub value-of-spec : {M : Type 1} → statement M
 value-of-spec =
@@ -51,14 +59,15 @@ value-of-spec =
     (tie.spec
     Inv-loop
     μ-loop
-    add-end
-    cast-end
     loop-holds
-    mul-value
+    add-least
+    least-requires
+    cast-at
     array-read-wide
     wide-requires
+    mul-value
     add-value
-    add-at
+    add-i
     loop-less
     loop-again
     returns)

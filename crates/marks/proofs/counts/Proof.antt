@@ -1,0 +1,31 @@
+-- `marks::counts` meets its contract. Assumes nothing.
+use Rattle.storage.proofs.Admitting.{admitted-room, room-turn, room-pages}
+use Rattle.storage.proofs.Chains.{measured}
+use Rattle.storage.proofs.Counting.{counts-refused, counts-told}
+use borrow.Author.Needs.{needs}
+use Rattle.marks.proofs.counts.Statement.{statement}
+use Rattle.marks.proofs.counts.Tie as tie
+
+measure-requires : tie.Need-measure-requires
+measure-requires c κs = search needs
+
+admit-requires : tie.Need-admit-requires
+admit-requires c κs = search needs
+
+returns : tie.Need-returns
+returns c = λ cache. counts-refused _ _ (measured _ _ _ _ _ _ _ (c .before .before .measure .ensures) (c .before .admit .ensures)) (c .if1 .taken)
+
+live-requires : tie.Need-live-requires
+live-requires c κs = room-turn _ _ _ _ (admitted-room _ _ _ _ _ _ (c .before .admit .ensures) (c .if1 .left))
+
+count-held-requires : tie.Need-count-held-requires
+count-held-requires c κs =
+    room-pages _ _ _ _ _ _ _ _ _ (admitted-room _ _ _ _ _ _ (measured _ _ _ _ _ _ _ (c .before .before .before .measure .ensures) (c .before .before .admit .ensures)) (c .before .if1 .left))
+
+returns-2 : tie.Need-returns-2
+returns-2 c = λ cache. counts-told _ _ (measured _ _ _ _ _ _ _ (c .before .before .before .before .measure .ensures) (c .before .before .before .admit .ensures)) (c .before .before .if1 .left) _ _ (c .before .live .ensures) (c .count-held .ensures)
+
+pub counts-spec : {M : Type 1} → statement M
+counts-spec =
+    tie.close
+    (tie.spec measure-requires admit-requires returns live-requires count-held-requires returns-2)

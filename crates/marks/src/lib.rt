@@ -1,0 +1,171 @@
+// The calls on frames: MARK, ROLLBACK, ADVANCE and COUNTS. They take the registers by value and, of the cache, the arrays that they look at
+// where they lie. `store` has the same calls on a whole state by value, `vcm` exports them.
+use storage::Registers;
+use storage::Step;
+ghost use Rattle.rules.specs.Call.Answer.{counting};
+ghost use Rattle.rules.specs.Call.Call.{COUNTS};
+ghost use Rattle.storage.specs.Storage.{memoryOf};
+ghost use Rattle.storage.specs.Contracts.{Looks, MarksIn, RollsBackIn, AdvancesIn};
+
+// The live frames and the pages needed, with the refusal or 0.
+#[repr(C)]
+pub struct Counted {
+    pub refusal: u32,
+    pub live: u32,
+    pub pages: u32,
+}
+
+// MARK: opens the next frame. Nothing is copied and nothing cleared.
+pub fn mark(
+    mut registers: Registers,
+    archive: &[u8],
+    pool: &[u8],
+    groups: &[u32],
+    table: &[u16],
+    owners: &[u32],
+    history: &[u16],
+) -> Step
+    ensures { λ r. ⌜ MarksIn registers (memoryOf (now (archive .entry)) (now (pool .entry)) (now (groups .entry)) (now (table .entry)) (now (owners .entry)) (now (history .entry))) (r .refusal) (r .registers) ⌝ }
+{
+    let lengths = storage::measure(archive, pool, groups, table, owners, history);
+    let refusal = storage::admit_mark(registers, lengths);
+    if refusal != 0 {
+        return Step { registers, refusal };
+    }
+    let next = (registers.cmf + 1) % registers.frames;
+    registers.cmf = next;
+    Step {
+        registers,
+        refusal: 0,
+    }
+}
+
+// ROLLBACK: drops the k newest frames. No written bit is cleared, but for the sweep when the tags run out: the history masks them, and no
+// bit has the next tag.
+pub fn rollback(
+    mut registers: Registers,
+    origins: &[u16; 32],
+    valid: &mut [u8; 32],
+    archive: &[u8],
+    pool: &[u8],
+    groups: &mut [u32],
+    table: &[u16],
+    owners: &[u32],
+    history: &mut [u16],
+    k: u32,
+) -> Step
+    ensures { λ r. ⌜ RollsBackIn (now (origins .entry)) registers (now (valid .entry)) (memoryOf (now (archive .entry)) (now (pool .entry)) (now (groups .entry)) (now (table .entry)) (now (owners .entry)) (now (history .entry))) k (r .refusal) (r .registers) (now (valid .exit))
+        (memoryOf (now (archive .entry)) (now (pool .entry)) (now (groups .exit)) (now (table .entry)) (now (owners .entry)) (now (history .exit))) ⌝ }
+{
+    let lengths = storage::measure(archive, pool, groups, table, owners, history);
+    let refusal = storage::admit_frames(registers, lengths, k);
+    if refusal != 0 {
+        return Step { registers, refusal };
+    }
+    let kept = frames::live(registers.cmf, registers.omf, registers.frames) - k;
+    let tag = written::rollback(
+        groups,
+        history,
+        registers.lines,
+        registers.frames,
+        registers.omf,
+        registers.tag % 256,
+        kept as u16,
+    );
+    cache::forget(origins, valid, registers.omf, registers.frames, kept);
+    let cmf = (registers.cmf + registers.frames - k) % registers.frames;
+    registers.cmf = cmf;
+    registers.tag = tag;
+    Step {
+        registers,
+        refusal: 0,
+    }
+}
+
+// ADVANCE: folds the k oldest frames into the archive and frees them.
+pub fn advance(
+    mut registers: Registers,
+    origins: &mut [u16; 32],
+    archive: &mut [u8],
+    pool: &[u8],
+    groups: &mut [u32],
+    table: &[u16],
+    owners: &[u32],
+    history: &mut [u16],
+    k: u32,
+) -> Step
+    ensures { λ r. ⌜ AdvancesIn registers (now (origins .entry)) (memoryOf (now (archive .entry)) (now (pool .entry)) (now (groups .entry)) (now (table .entry)) (now (owners .entry)) (now (history .entry))) k (r .refusal) (r .registers) (now (origins .exit))
+        (memoryOf (now (archive .exit)) (now (pool .entry)) (now (groups .exit)) (now (table .entry)) (now (owners .entry)) (now (history .exit))) ⌝ }
+{
+    let lengths = storage::measure(archive, pool, groups, table, owners, history);
+    let refusal = storage::admit_frames(registers, lengths, k);
+    if refusal != 0 {
+        return Step { registers, refusal };
+    }
+    versions::fold(
+        archive,
+        pool,
+        groups,
+        table,
+        history,
+        registers.lines,
+        registers.frames,
+        registers.omf,
+        registers.pages,
+        k,
+    );
+    written::advance(
+        groups,
+        history,
+        registers.lines,
+        registers.frames,
+        registers.omf,
+        k as u16,
+    );
+    cache::collect(origins, registers.omf, registers.frames, k);
+    let omf = (registers.omf + k) % registers.frames;
+    registers.omf = omf;
+    Step {
+        registers,
+        refusal: 0,
+    }
+}
+
+// COUNTS: the pages needed are those held, which their owners confirm.
+pub fn counts(
+    registers: Registers,
+    archive: &[u8],
+    pool: &[u8],
+    groups: &[u32],
+    table: &[u16],
+    owners: &[u32],
+    history: &[u16],
+) -> Counted
+    ensures { λ r. ⌜ Looks COUNTS registers (memoryOf (now (archive .entry)) (now (pool .entry)) (now (groups .entry)) (now (table .entry)) (now (owners .entry)) (now (history .entry))) (counting (r .refusal) (r .live) (r .pages)) ⌝ }
+{
+    let lengths = storage::measure(archive, pool, groups, table, owners, history);
+    let refusal = storage::admit(registers, lengths);
+    if refusal != 0 {
+        return Counted {
+            refusal,
+            live: 0,
+            pages: 0,
+        };
+    }
+    let live = frames::live(registers.cmf, registers.omf, registers.frames);
+    let held = pages::table::count_held(
+        groups,
+        history,
+        table,
+        owners,
+        registers.lines,
+        registers.frames,
+        registers.omf,
+        registers.pages,
+    );
+    Counted {
+        refusal: 0,
+        live,
+        pages: held,
+    }
+}

@@ -39,11 +39,9 @@ use Rattle.pages.proofs.Keeping.{advanced-confirmed}
 use Rattle.cache.specs.Steps.{archiveFrame, frameAfter, framesAfter, withOrigins, collected}
 use Rattle.cache.specs.Shown.{shown}
 use Rattle.cache.proofs.Frames.{collected-sized, collected-shown, collected-all}
-use Rattle.cache.specs.declared.Cache.{Cache}
 use Rattle.versions.specs.Newest.{pageOf, spotOf, contentOf}
 use Rattle.versions.specs.Steps.{folded, AsksFold}
 use Rattle.storage.specs.declared.Registers.{Registers}
-use Rattle.storage.specs.declared.State.{State}
 use Rattle.storage.specs.Storage.{Storage, stateOf, storageOf, memoryOf, settingsIn, lengthsIn, pastIn, Recent, Coherent, liveIn, writtenIn, indexBack, frameIn, archiveIn, versionAt, latestIn, frameNumber, newestFrame, WellStore, store}
 use Rattle.storage.specs.Steps.{advancedRegisters, advancedState, AdvancedTo}
 use Rattle.storage.specs.Admit.{admitted}

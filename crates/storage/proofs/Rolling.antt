@@ -37,7 +37,6 @@ use Rattle.cache.specs.Entries.{lineOf}
 use Rattle.cache.specs.Steps.{isDropped, flagsAfter, withFlags, forgotten}
 use Rattle.cache.specs.Shown.{shown}
 use Rattle.cache.proofs.Frames.{forgotten-sized, forgotten-shown, forgotten-all}
-use Rattle.cache.specs.declared.Cache.{Cache}
 use Rattle.storage.specs.declared.Registers.{Registers}
 use Rattle.storage.specs.declared.State.{State}
 use Rattle.versions.specs.Newest.{pageOf}

@@ -102,13 +102,9 @@ bitsFrom groups at n = sumFrom (λ g. g % 65536) groups at n
 unfoldable pub spanBits : (lines frames omf : ℕ) → (groups : List ℕ) → (first count index : ℕ) → ℕ
 spanBits lines frames omf groups first count i = bitsFrom groups (placeOf lines (frameAt frames omf i / 16) first) count
 
--- and whether none is set in the working areas of the indexes below an end,
+-- and whether none is set in the working areas of the indexes below an end.
 unfoldable pub spanBlank : (lines frames omf : ℕ) → (groups : List ℕ) → (first count end : ℕ) → Bool
 spanBlank lines frames omf groups first count end = not (any end (λ i. ltb 0 (spanBits lines frames omf groups first count i)))
-
--- for a block's 8 lines.
-abbrev pub blockBlank : (lines frames omf : ℕ) → (groups : List ℕ) → (block end : ℕ) → Bool
-blockBlank lines frames omf groups block end = spanBlank lines frames omf groups (block * 8) 8 end
 
 -- The bits of a group, in an area, whose index from OMF lies in a window. The first u frames of the area have the indexes from s on; the
 -- others, where OMF lies inside the area, those from 0 on.
@@ -163,22 +159,12 @@ pub record AsksSet (lines frame block long : ℕ) : Type 0 where
   pub near : Near lines (frame / 16) (block * 8)
   pub within : placeOf lines (frame / 16) (block * 8) + 8 ≤ long
 
--- What the test of neighbouring lines asks, without a history,
+-- What the test of neighbouring lines asks, without a history.
 pub record AsksSpan (lines frames omf first count end long : ℕ) : Type 0 where
   pub lines-few : lines ≤ 4096
   pub frames-by : frames % 16 ≡ 0
   pub frames-few : frames ≤ 4096
   pub omf-below : omf < frames
   pub span-below : first + count ≤ lines
-  pub end-within : end ≤ frames
-  pub groups-long : frames / 16 * lines ≤ long
-
--- and that of a block.
-pub record AsksBlank (lines frames omf block end long : ℕ) : Type 0 where
-  pub lines-few : lines ≤ 4096
-  pub frames-by : frames % 16 ≡ 0
-  pub frames-few : frames ≤ 4096
-  pub omf-below : omf < frames
-  pub block-below : block * 8 + 8 ≤ lines
   pub end-within : end ≤ frames
   pub groups-long : frames / 16 * lines ≤ long

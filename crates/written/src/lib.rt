@@ -8,7 +8,7 @@ ghost use lib.ListN.{length, getD};
 ghost use Rattle.rules.specs.Seen.{needs};
 ghost use Rattle.frames.specs.Circle.{Turn, indexOf};
 ghost use Rattle.frames.specs.Lists.{rewrite};
-ghost use Rattle.written.specs.Bits.{writtenOf, Lent, Asks, AsksBlock, AsksSet, AsksSpan, AsksBlank, Near, placeOf, boundOf, effective, newestFrom, newestRun, newestInArea, downOf, upOf, standsIn, runHas, blockHas, setIn, bitsFrom, spanBlank, blockBlank, firstIndex, beforeWrap, afterWrap, cutOf, windowOf};
+ghost use Rattle.written.specs.Bits.{writtenOf, Lent, Asks, AsksBlock, AsksSet, AsksSpan, Near, placeOf, boundOf, effective, newestFrom, newestRun, newestInArea, downOf, upOf, standsIn, runHas, blockHas, setIn, bitsFrom, spanBlank, firstIndex, beforeWrap, afterWrap, cutOf, windowOf};
 ghost use Rattle.written.specs.Steps.{AsksWindow, AsksClear, AsksReset, regrouped, withWritten, Entered, maskedOf, swept, keptOf, cleared, lowerBound, lowered, RolledBack, blanked};
 
 // Where the group of a line in a working area stands.
@@ -301,8 +301,8 @@ pub fn block_is_blank(
     block: u32,
     end: u32,
 ) -> bool
-    requires { ⌜ AsksBlank lines frames omf block end (length (now groups)) ⌝ }
-    ensures { λ r. ⌜ r ≡ blockBlank lines frames omf (now (groups .entry)) block end ⌝ }
+    requires { ⌜ AsksSpan lines frames omf (block * 8) 8 end (length (now groups)) ⌝ }
+    ensures { λ r. ⌜ r ≡ spanBlank lines frames omf (now (groups .entry)) (block * 8) 8 end ⌝ }
 {
     span_is_blank(groups, lines, frames, omf, block * 8, 8, end)
 }

@@ -5,7 +5,9 @@ use crate::peer::{answers, compare, timed, Peer, Seen};
 use crate::plain::{Idle, UndoLog, WholeCopy};
 use crate::workload::{self, Settings, Workload};
 use crate::FINE;
-use vcm::Store;
+use std::hint::black_box;
+use std::time::Instant;
+use vcm::{Refusal, Store};
 
 const REPEATS: usize = 15;
 /// Calls of a list that are timed beside SQLite, which is slow.
@@ -160,6 +162,22 @@ fn latencies(table: &mut Table, fine: &Workload, long: &Workload) {
 /// Our slowest rollback without sweep of all, beside the log's slowest after 10,000 writes.
 const LONG: &str = "latency/rollback-of-10000-writes";
 
+/// What a read of ours takes that is refused for its width: the border, and the tests of state, lent lengths and width.
+fn refused() -> f64 {
+    let mut store = <Store as Peer>::new(FINE);
+    let mut round = || {
+        let start = Instant::now();
+        for _ in 0..1000 {
+            let answer = Store::read(&mut store, black_box(3), black_box(0));
+            assert_eq!(black_box(answer), Err(Refusal::Width));
+        }
+        start.elapsed().as_secs_f64() * 1e9 / 1000.0
+    };
+    let mut times: Vec<f64> = (0..10 * REPEATS).map(|_| round()).collect();
+    times.sort_by(f64::total_cmp);
+    times[times.len() / 2]
+}
+
 fn bars(table: &Table) {
     let bar = |peer: &str, workload: &str, most: f64| {
         let is_asked = |name: &str| name == workload || workload == "all";
@@ -204,6 +222,10 @@ pub fn run() -> Result<(), String> {
     println!(
         "# the replay itself, on a peer that does nothing: {:.1} ns a call of fine, part of every time below",
         pair::<Idle>(&lists[0], usize::MAX / 2).1
+    );
+    println!(
+        "# a read of ours that is refused for its width, which is the border and the first tests alone: {:.1} ns",
+        refused()
     );
     let mut table = Table::default();
     for list in &lists {

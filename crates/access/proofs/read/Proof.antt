@@ -1,5 +1,5 @@
 -- `access::read` meets its contract. Assumes nothing.
-use mathlib.Core.Path.{_≡_, refl}
+use mathlib.Core.Path.{refl}
 use Rattle.cache.proofs.Hits.{found-below}
 use Rattle.versions.specs.Newest.{originOf}
 use Rattle.storage.proofs.Admitting.{room-turn, room-newest}

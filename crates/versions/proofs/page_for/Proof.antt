@@ -1,5 +1,4 @@
 -- `versions::page_for` meets its contract. Assumes nothing.
-use mathlib.Core.Path.{_≡_}
 use Rattle.versions.proofs.Putting.{page-entry, page-own, page-given, given-few, hint-behind, hint-stays}
 use borrow.Author.Needs.{needs}
 use native.Mathlib.Omega.{arith}

@@ -1,6 +1,5 @@
 -- `written::set_in` meets its contract. Assumes nothing.
 use Prim.Native.Nat.{_-_, _%_}
-use native.Mathlib.Omega.{arith}
 use borrow.Author.Needs.{needs}
 use Rattle.frames.specs.Digits.{digit}
 use Rattle.written.proofs.Blanks.{Added, added-start, digits-more, set-end}

@@ -248,11 +248,11 @@ pub fn read(
     let line = address / 16;
     match cache::find(held, valid, line) {
         Entry::Hit(entry) => {
-            let content = cache::line_at(bytes, entry);
+            let cached = cache::line_at(bytes, entry);
             cache::recall(last, entry);
             Reading {
                 refusal: 0,
-                value: pages::lines::value_of(content, width, address % 16),
+                value: pages::lines::value_of(cached, width, address % 16),
                 origin: Origin::Cache,
             }
         }

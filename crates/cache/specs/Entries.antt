@@ -46,6 +46,7 @@ bytesOf c e = bytesIn (c .bytes) e
 abbrev pub home : ℕ → ℕ
 home l = 2 * setOf l
 
+-- Whether an entry is valid and has the line.
 unfoldable pub isAtIn : (lines valid : List ℕ) → (entry line : ℕ) → Bool
 isAtIn lines valid e l = isValidIn valid e && eqb l (getD lines e 0)
 
@@ -60,6 +61,7 @@ foundIn lines valid l =
 abbrev pub found : Cache → ℕ → Entry
 found c l = foundIn (c .lines) (c .valid) l
 
+-- Whether there is one.
 unfoldable pub isHit : Entry → Bool
 isHit (Hit e) = true
 isHit Miss = false

@@ -42,6 +42,7 @@ isBelow omf frames n frame = ltb frame frames && ltb (indexOf frames omf frame) 
 unfoldable pub isDropped : (omf frames kept frame : ℕ) → Bool
 isDropped omf frames kept frame = not (eqb frame archiveFrame) && not (isBelow omf frames kept frame)
 
+-- An entry's valid flag after the rollback, the flags of all entries, and the cache with them.
 unfoldable pub flagAfter : (omf frames kept frame flag : ℕ) → ℕ
 flagAfter omf frames kept frame flag = cond (isDropped omf frames kept frame) 0 flag
 
@@ -58,6 +59,7 @@ forgotten c omf frames kept = withFlags c (flagsAfter (c .frames) omf frames kep
 unfoldable pub frameAfter : (omf frames k frame : ℕ) → ℕ
 frameAfter omf frames k frame = cond (isBelow omf frames k frame) archiveFrame frame
 
+-- The frame numbers of all entries then, and the cache with them.
 unfoldable pub framesAfter : (omf frames k : ℕ) → (origins : List ℕ) → List ℕ
 framesAfter omf frames k origins = rewrite 32 (λ e frame. frameAfter omf frames k frame) origins
 

@@ -139,9 +139,9 @@ fn step(
     let deed = tally::deed(
         call.kind,
         expected,
-        state_after.tag,
+        state_after.registers.tag,
         state.registers.cmf,
-        state_after.cmf,
+        state_after.registers.cmf,
     );
     let counted = tally::judged(tally, call, deed, answer, expected);
     print_end(call.kind, run.left, after.left, answer, counted);

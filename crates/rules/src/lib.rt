@@ -17,7 +17,7 @@ pub struct Need {
 }
 
 // Whether the settings are within document 01's limits.
-pub fn in_limits(lines: u32, frames: u32, pages: u32) -> bool
+fn in_limits(lines: u32, frames: u32, pages: u32) -> bool
     ensures { λ r. ⌜ r ≡ within (settingsOf lines frames pages) ⌝ }
 {
     if lines < 8 {

@@ -125,7 +125,7 @@ fn read_some(
     )
 }
 
-// Answers the input to its end or to a failure. A proved loop has to end, and nothing holds-text that the input does: so the reads are counted down
+// Answers the input to its end or to a failure. A proved loop has to end, and nothing says that the input does: so the reads are counted down
 // from a number that no run uses up.
 fn read_all(
     archive: &mut [u8],

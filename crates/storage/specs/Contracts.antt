@@ -1,5 +1,6 @@
--- What each call that can change something promises in all: the promise of `rules`, and the state and the lent memory that it leaves.
--- The store's functions and the exported ones state the same.
+-- What each call promises in all: the promise of `rules`, and by definitions the state and the pieces of lent memory that it writes. A piece
+-- that a call does not write is lent to it to read only, and stands in its contract as the same list before and after. The functions of
+-- `access`, `marks` and `store` and the exported ones state the same.
 use Prim.Native.Nat.{ℕ}
 use mathlib.Core.Path.{_≡_}
 use mathlib.Core.List.{List}
@@ -15,29 +16,36 @@ use Rattle.storage.specs.declared.Registers.{Registers}
 use Rattle.storage.specs.Storage.{Storage, Memory, stateOf, WellStore, store}
 use Rattle.storage.specs.Steps.{markedState, ResetTo, RolledTo, AdvancedTo, ReadTo, WroteTo}
 
+-- A storage by its registers, its cache and the lent memory.
 abbrev pub storageWith : Registers → Cache → Memory → Storage
 storageWith r cache m = record { state = stateOf r cache; memory = m }
 
+-- "RESET(L, F, P): archive all zero, one live frame, no written bits, all pages free, cache empty. Any lent contents will do."
 abbrev pub Resets : Storage → (lines frames pages refusal : ℕ) → Storage → Type 0
 Resets x l f p r t =
     Promise store (RESET (settingsOf l f p)) x (outcome r) t
     × (r ≡ 0
     → ResetTo l f p (x .memory .archive) (x .memory .groups) (x .memory .history) (t .state) (t .memory .archive) (t .memory .groups) (t .memory .history))
 
+-- "WRITE(width, address, value): .. If the line has no written bit in CMF, its most recent version is copied there first; the bit is then set".
 abbrev pub Writes : Storage → (width address value refusal : ℕ) → Storage → Type 0
 Writes x w a v r t = Promise store (WRITE w a v) x (outcome r) t × (r ≡ 0 → WellStore x → WroteTo x w a v t)
 
+-- "READ(width, address): the value and its origin."
 abbrev pub Reads : Storage → (width address refusal value : ℕ) → Origin → Storage → Type 0
 Reads x w a r v o t = Promise store (READ w a) x (reading r v o) t × (r ≡ 0 → ReadTo x (lineOf a) (t .state))
 
+-- "MARK: opens the next frame, without written bits. Nothing is copied."
 abbrev pub Marks : Storage → (refusal : ℕ) → Storage → Type 0
 Marks x r t = Promise store MARK x (outcome r) t × (r ≡ 0 → t .state ≡ markedState (x .state))
 
+-- "ROLLBACK(k): drops the k newest frames."
 abbrev pub RollsBack : Storage → (k refusal : ℕ) → Storage → Type 0
 RollsBack x k r t =
     Promise store (ROLLBACK k) x (outcome r) t
     × (r ≡ 0 → RolledTo (x .state) (x .memory .groups) (x .memory .history) k (t .state) (t .memory .groups) (t .memory .history))
 
+-- "ADVANCE(k): folds the k oldest frames into the archive, newest version of each line winning, and frees them."
 abbrev pub Advances : Storage → (k refusal : ℕ) → Storage → Type 0
 Advances x k r t =
     Promise store (ADVANCE k) x (outcome r) t

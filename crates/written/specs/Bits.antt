@@ -106,11 +106,12 @@ spanBits lines frames omf groups first count i = bitsFrom groups (placeOf lines 
 unfoldable pub spanBlank : (lines frames omf : ℕ) → (groups : List ℕ) → (first count end : ℕ) → Bool
 spanBlank lines frames omf groups first count end = not (any end (λ i. ltb 0 (spanBits lines frames omf groups first count i)))
 
--- The bits of a group, in an area, whose index from OMF lies in a window. The first u frames of the area have the indexes from s on; the
--- others, where OMF lies inside the area, those from 0 on.
+-- The index of an area's first frame.
 unfoldable pub firstIndex : (frames omf area : ℕ) → ℕ
 firstIndex frames omf area = indexOf frames omf (area * 16)
 
+-- The bits of a group, in an area, whose index from OMF lies in a window. The first u frames of the area have the indexes from s on; the
+-- others, where OMF lies inside the area, those from 0 on.
 unfoldable pub beforeWrap : (g s u from end : ℕ) → ℕ
 beforeWrap g s u from end = rangeOf g (min u (from - s)) (min u (end - s))
 

@@ -29,7 +29,7 @@ live-requires c κs = room-turn _ _ _ _ (frames-room _ _ _ _ _ _ (measured _ _ _
 sub-kept : tie.Need-sub-kept
 sub-kept c =
     let g = frames-room _ _ _ _ _ _ (measured _ _ _ _ _ _ _ (c .before .before .before .measure .ensures) (c .before .before .admit-frames .ensures)) (c .before .if1 .left) in
-    omega (arith, g .k-low, c .live .ensures)
+    omega (arith, g .k-some, g .k-low, c .live .ensures)
 
 cast-rollback : tie.Need-cast-rollback
 cast-rollback c =

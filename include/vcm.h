@@ -8,8 +8,8 @@
  * Link with libvcm.a, which `rt staticlib vcm` writes to target/staticlib (x86-64 Linux). It calls memcpy and memset alone, allocates
  * nothing and keeps nothing between calls: all that a store is lies in its state and in the six pieces of memory that the caller lends.
  *
- * Every call is proved: it ends, it stays inside the lent memory, it is refused exactly for the reasons below, and a refused call leaves
- * state and lent memory untouched. It asks nothing of the state and of what the lent memory holds. What a caller owes is C's own:
+ * Every exported function is proved: it ends, it stays inside the lent memory, it is refused exactly for the reasons below (but 13 on
+ * storage that CHECK rejects), and a refused call leaves state and lent memory untouched. It asks nothing of the state and of what the lent memory holds. What a caller owes is C's own:
  *   - each pointer is aligned for its type and points to as many elements as its length says; it is never NULL, also for length 0;
  *   - the elements, and the state, have been given some value, whatever it is: memory fresh from malloc has none, calloc's has;
  *   - the state, the six pieces and LINE's bytes do not overlap;
@@ -190,7 +190,7 @@ static inline uint32_t vcm_advance(vcm_state *state, const vcm_memory *memory, u
 static inline vcm_counted vcm_counts(const vcm_state *state, const vcm_memory *memory);
 
 /* CHECK: yes exactly if state and lent memory are well-formed, as all storage reached from RESET is. On storage that CHECK rejects an
- * accepted call other than RESET and CHECK ends safely and its outcome is free. Refused: 5, 6. */
+ * accepted call other than RESET and CHECK ends safely and its outcome is free, and so is whether WRITE gives 13. Refused: 5, 6. */
 static inline vcm_verdict vcm_check(const vcm_state *state, const vcm_memory *memory);
 
 /* ---- What the library exports -----------------------------------------------------------------------------------------------------

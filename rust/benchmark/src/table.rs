@@ -211,7 +211,7 @@ pub fn run() -> Result<(), String> {
     }
     compare_all(&long)?;
     println!(
-        "# every value read is the same on ours and on each peer, and on chip-rust every origin"
+        "# every value read is the same on ours and on each peer, and on chip-rust every origin; on sqlite, those of the calls timed beside it"
     );
     head_sqlite();
     println!("# bench: nanoseconds for each call of the list, medians of {REPEATS} replays in turns, taken for every thousand calls; ratio: ours over the peer's");

@@ -251,7 +251,7 @@ pub fn deep(settings: Settings, calls: usize) -> Workload {
     maker.done("deep", warm)
 }
 
-/// Plans made and thrown away: one to three events, taken back at once, nine writes in ten.
+/// Plans made and thrown away: one to three marked events, taken back mark by mark, nine writes in ten.
 pub fn regenerate(settings: Settings, calls: usize) -> Workload {
     let mut maker = Maker::new(settings, 40.0, 910);
     let (warm, mut taken, mut kept) = (2000, 0, 0);
@@ -262,7 +262,9 @@ pub fn regenerate(settings: Settings, calls: usize) -> Workload {
                 maker.mark();
                 maker.event(20);
             }
-            maker.rollback(chain);
+            for _ in 0..chain {
+                maker.rollback(1);
+            }
             taken += chain;
         } else {
             maker.mark();

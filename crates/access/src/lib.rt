@@ -10,7 +10,7 @@ use versions::Spot;
 use versions::Version;
 ghost use mathlib.Core.Path.{_≡_};
 ghost use Rattle.rules.specs.Call.Answer.{outcome, lending};
-ghost use Rattle.rules.specs.Call.Call.{LINE, LINE-REFUSAL};
+ghost use Rattle.rules.specs.Call.Look.{LINE, LINE-REFUSAL};
 ghost use Rattle.written.specs.Bits.{writtenOf};
 ghost use Rattle.versions.specs.Newest.{originOf, newestOf, AsksNewest};
 ghost use Rattle.cache.specs.Entries.{cacheOf};

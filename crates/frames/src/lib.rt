@@ -2,7 +2,7 @@
 // The functions with a `requires` are called by our own crates alone, which test what it asks.
 ghost use mathlib.Core.Path.{_≡_};
 ghost use Prim.Native.Nat.{_<_, _^_};
-ghost use Rattle.rules.specs.Refusal.{liveFrames};
+ghost use Rattle.rules.specs.Registers.{liveBetween};
 ghost use Rattle.frames.specs.Circle.{Turn, indexOf, frameAt};
 ghost use Rattle.frames.specs.Digits.{Ends, rangeOf, setAt, newestBit};
 
@@ -38,7 +38,7 @@ pub fn frame_at(index: u32, omf: u32, frames: u32) -> u32
 // How many frames are live, from OMF to CMF round the circle.
 pub fn live(cmf: u32, omf: u32, frames: u32) -> u32
     requires { ⌜ Turn frames omf cmf ⌝ }
-    ensures { λ r. ⌜ r ≡ liveFrames frames cmf omf ⌝ }
+    ensures { λ r. ⌜ r ≡ liveBetween frames cmf omf ⌝ }
 {
     index(cmf, omf, frames) + 1
 }

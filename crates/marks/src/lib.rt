@@ -3,7 +3,7 @@
 use storage::Registers;
 use storage::Step;
 ghost use Rattle.rules.specs.Call.Answer.{counting};
-ghost use Rattle.rules.specs.Call.Call.{COUNTS};
+ghost use Rattle.rules.specs.Call.Look.{COUNTS};
 ghost use Rattle.storage.specs.Storage.{memoryOf};
 ghost use Rattle.storage.specs.Contracts.{Looks, MarksIn, RollsBackIn, AdvancesIn};
 

@@ -13,7 +13,8 @@ use Rattle.text.specs.Numbers.{decimal}
 use Rattle.text.specs.Output.{Puts}
 use Rattle.text.proofs.Putting.{decimal-few, puts-head}
 use Rattle.rules.specs.Call.{Origin, Answer, numberIn}
-use Rattle.rules.specs.Call.Origin.{from-cache, from-frame, from-archive}
+use Rattle.rules.specs.Call.Place.{in-frame, in-archive}
+use Rattle.rules.specs.Call.Origin.{from-cache, from}
 use Rattle.rules.specs.Call.Answer.{outcome, reading, lending, counting, verdict}
 use Rattle.replies.specs.declared.Shown.{Shown}
 use Rattle.replies.specs.declared.Shown.the-variants.{Nothing, Read, Counts}
@@ -27,8 +28,8 @@ number-ends n p = omega (arith, decimal-few n)
 origin-few : (o : Origin) → length (originText o) ≤ 20
 unfolding originText
 origin-few from-cache = omega arith
-origin-few (from-frame back) = decimal-few back
-origin-few from-archive = omega arith
+origin-few (from (in-frame back)) = decimal-few back
+origin-few (from in-archive) = omega arith
 
 values-few : (a : Answer) → length (valuesText a) ≤ 42
 unfolding valuesText

@@ -6,14 +6,15 @@ use lib.Dec.{eqb}
 use Rattle.text.specs.Parts.{Text}
 use Rattle.text.specs.Numbers.{decimal}
 use Rattle.rules.specs.Call.{Origin, Answer, numberIn}
-use Rattle.rules.specs.Call.Origin.{from-cache, from-frame, from-archive}
+use Rattle.rules.specs.Call.Place.{in-frame, in-archive}
+use Rattle.rules.specs.Call.Origin.{from-cache, from}
 use Rattle.rules.specs.Call.Answer.{outcome, reading, lending, counting, verdict}
 
 -- "origin (`c` cache, `a` archive, or marks back)".
 unfoldable pub originText : Origin → Text
 originText from-cache = 99 ∷ []
-originText (from-frame back) = decimal back
-originText from-archive = 97 ∷ []
+originText (from (in-frame back)) = decimal back
+originText (from in-archive) = 97 ∷ []
 
 -- "After `ok`, a read gives value and origin ..; counts gives live frames and pages"; "fields are parted by one tab". (No record asks for
 -- a LINE or a CHECK.)

@@ -5,10 +5,10 @@ use Prim.Native.Nat.{ℕ, _+_, _-_, _*_, _%_, _^_, _≤_, _<_}
 use native.Mathlib.Omega.{arith}
 use borrow.Author.Tests.{ltb-true, leb-true, eqb-true}
 use lib.Dec.{ltb, leb, eqb}
-use Rattle.rules.specs.Settings.{Settings, within, enough}
-use Rattle.rules.specs.Call.{Call}
-use Rattle.rules.specs.Call.Call.{RESET, WRITE, READ, LINE, LINE-REFUSAL, MARK, ROLLBACK, ADVANCE, COUNTS, CHECK}
-use Rattle.rules.specs.Refusal.{refusal, unless, Facts, stateFits, isWidth, stateRefusal, placeRefusal, writeRefusal, markedRefusal}
+use Rattle.rules.specs.Settings.{Settings, enough}
+use Rattle.rules.specs.Call.{Act, Call}
+use Rattle.rules.specs.Call.Call.{RESET, CHECK, ON}
+use Rattle.rules.specs.Refusal.{refusal, unless, Facts, isWidth, stateRefusal, placeRefusal, writeRefusal, markedRefusal}
 use Rattle.rules.proofs.Tests.{both-true}
 
 -- the test failed: the refusal is its number
@@ -61,36 +61,18 @@ write-passed s w a v rest e =
     let q = passed (ltb v (256 ^ w)) 10 rest (omega arith) (p .1) in
     (p .0, ltb-true v (256 ^ w) (q .0), q .1)
 
--- "every other call that takes a state gets 5 on the blank one", whose L is 0.
-pub blank-unfit : (s : Settings) (cmf omf : ℕ) → s .lines ≡ 0 → stateFits s cmf omf ≡ false
-unfolding stateFits within
-blank-unfit s cmf omf e = rw e refl
-
+-- "every other call that takes a state gets 5 on the blank one", whose registers are not within their limits (`blank-unfit`).
 unfit : (g : Facts) (rest : ℕ) → g .fits ≡ false → stateRefusal g rest ≡ 5
 unfolding stateRefusal
 unfit g rest e = fails (g .fits) 5 _ e
 
 abbrev pub TakesState : Call → Type 0
 TakesState (RESET s) = ⊥
-TakesState (WRITE w a v) = Unit {0}
-TakesState (READ w a) = Unit {0}
-TakesState (LINE l) = Unit {0}
-TakesState (LINE-REFUSAL l) = Unit {0}
-TakesState MARK = Unit {0}
-TakesState (ROLLBACK k) = Unit {0}
-TakesState (ADVANCE k) = Unit {0}
-TakesState COUNTS = Unit {0}
 TakesState CHECK = Unit {0}
+TakesState (ON a) = Unit {0}
 
-pub unfit-gets-5 : (g : Facts) (c : Call) → TakesState c → g .fits ≡ false → refusal g c ≡ 5
+pub unfit-gets-5 : (g : Facts) (lacking : Act → Bool) (c : Call) → TakesState c → g .fits ≡ false → refusal g lacking c ≡ 5
 unfolding refusal
-unfit-gets-5 g (RESET s) t e = absurd t
-unfit-gets-5 g (WRITE w a v) t e = unfit g _ e
-unfit-gets-5 g (READ w a) t e = unfit g _ e
-unfit-gets-5 g (LINE l) t e = unfit g _ e
-unfit-gets-5 g (LINE-REFUSAL l) t e = unfit g _ e
-unfit-gets-5 g MARK t e = unfit g _ e
-unfit-gets-5 g (ROLLBACK k) t e = unfit g _ e
-unfit-gets-5 g (ADVANCE k) t e = unfit g _ e
-unfit-gets-5 g COUNTS t e = unfit g _ e
-unfit-gets-5 g CHECK t e = unfit g _ e
+unfit-gets-5 g lacking (RESET s) t e = absurd t
+unfit-gets-5 g lacking CHECK t e = unfit g _ e
+unfit-gets-5 g lacking (ON a) t e = unfit g _ e

@@ -7,101 +7,115 @@ use native.Mathlib.Nat.{suc-ne-zero}
 use native.Mathlib.Omega.{arith}
 use lib.ListN.{length}
 use Rattle.rules.specs.Settings.{Settings, Pieces}
-use Rattle.rules.specs.Call.{Call, Answer, refused}
+use Rattle.rules.specs.Call.{Look, Act, Call, Answer, refused}
 use Rattle.rules.specs.Call.Answer.{outcome, verdict}
-use Rattle.rules.specs.Call.Call.{RESET, WRITE, READ, LINE, LINE-REFUSAL, MARK, ROLLBACK, ADVANCE, COUNTS, CHECK}
-use Rattle.rules.specs.Seen.{Seen, accepted}
-use Rattle.rules.specs.Refusal.{refusal, noPage}
+use Rattle.rules.specs.Call.Act.{READ, LOOK, CHANGE}
+use Rattle.rules.specs.Call.Call.{RESET, CHECK, ON}
+use Rattle.rules.specs.Seen.{accepted}
+use Rattle.rules.specs.Refusal.{refusal, lacks}
 use Rattle.rules.specs.Figure3.{holds, cacheStep}
-use Rattle.rules.specs.Figure2.{figureStep, figureSeen}
-use Rattle.rules.specs.Plain.{Plain, Surviving, Model, plainSeen, plainStep, plainFacts, fresh, freshModel, modelAnswer, modelStep, answersFrom}
-use Rattle.rules.specs.Promise.{Kind, Lawful, Promise, Run, Started, Followed, Accepted, figureOf, seenOf, factsOf}
+use Rattle.rules.specs.Registers.{Registers, atStart}
+use Rattle.rules.specs.Figure2.{Figure, figureStep, figureSeen, registersStep}
+use Rattle.rules.specs.Plain.{Plain, Surviving, Model, plainSeen, plainStep, plainFacts, plainRefusal, fresh, freshModel, modelAnswer, modelStep, answersFrom}
+use Rattle.rules.specs.Promise.{formOf, Kind, Lawful, Promise, Run, Started, Looked, Stepped, Accepted, seenOf, factsOf}
 use Rattle.rules.specs.Promise.Run.{stop, next}
 use Rattle.rules.specs.Demand3.{Demand3, AnswersAsHistory}
+use Rattle.rules.proofs.Chain.{state-passed}
 use Rattle.rules.proofs.Picture.{picture, seen-is}
 use Rattle.rules.proofs.History.{drawn, drawn-settings, picture-drawn, drawn-survives}
-use Rattle.rules.proofs.Steps.{step-is, group-left, fresh-is}
+use Rattle.rules.proofs.Steps.{Steps, steps, fresh-is}
 
 -- A storage that the model mirrors: it is well-formed, and its figures are those that the model's history and cache draw.
 pub record Mirrored (K : Kind) (lengths : Pieces) (s : K .Storage) (m : Model) : Type 0 where
   pub well : K .Well s
   pub lent : K .lengths s ≡ lengths
-  pub settings : K .settings s ≡ m .plain .settings
-  pub figure : figureOf K s ≡ picture (m .plain)
+  pub settings : K .registers s .settings ≡ m .plain .settings
+  pub figure : K .figure s ≡ picture (m .plain)
   pub cache : K .cache s ≡ m .cache
   pub group : 0 < length (m .plain .groups)
 
 module _ (K : Kind) (law : Lawful K) (lengths : Pieces) where
-  module _ (s t : K .Storage) (c : Call) (a : Answer) (m : Model) (q : Mirrored K lengths s m) (h : Promise K c s a t) where
+  module _ (s : K .Storage) (m : Model) (q : Mirrored K lengths s m) where
     same-seen : seenOf K s ≡ plainSeen (m .plain)
     unfolding seenOf
     same-seen = ap₂ figureSeen (q .settings) (q .figure) ∙ seen-is (m .plain)
 
-    same-facts : factsOf K s (h .full) ≡ plainFacts lengths (m .plain) c
-    unfolding factsOf plainFacts figureOf picture plainSeen
+    same-facts : factsOf K s ≡ plainFacts lengths (m .plain)
+    unfolding factsOf plainFacts picture plainSeen
     same-facts = λ i. record {
       settings = q .settings i;
       fits = law .fits s (q .well) i;
       lengths = q .lent i;
-      live = q .figure i .live;
-      full = (h .exact (q .well) ∙ ap₂ (λ (x : Settings) (v : Seen). noPage x v c) (q .settings) same-seen) i;
+      live = (law .live s (q .well) ∙ ap (λ (f : Figure). f .live) (q .figure)) i;
     }
 
-    same-number : refusal (factsOf K s (h .full)) c ≡ refusal (plainFacts lengths (m .plain) c) c
-    same-number = ap (λ g. refusal g c) same-facts
+    same-refusal : (c : Call) → refusal (factsOf K s) (lacks (K .registers s .settings) (seenOf K s)) c ≡ plainRefusal lengths (m .plain) c
+    unfolding plainRefusal
+    same-refusal c = λ i. refusal (same-facts i) (lacks (q .settings i) (same-seen i)) c
 
-    -- an accepted call other than RESET
-    follows : refusal (plainFacts lengths (m .plain) c) c ≡ 0 → plainStep c (m .plain) .settings ≡ m .plain .settings → Followed K c s a t
-        → (a ≡ modelAnswer 0 m c) × Mirrored K lengths t (modelStep 0 m c)
-    unfolding modelAnswer modelStep plainFacts plainSeen
-    follows r e f = (
-      f .answer ∙ ap₂ (λ v x. accepted v (holds x) c) same-seen (q .cache),
-      record {
-        well = f .well;
-        lent = h .lengths ∙ q .lent;
-        settings = f .settings ∙ (q .settings ∙ sym e);
-        figure = f .figure ∙ (ap (figureStep c) (q .figure) ∙ sym (step-is (plainFacts lengths (m .plain) c) c (m .plain) (q .group) refl r));
-        cache = f .cache ∙ ap₂ (λ v x. cacheStep v c x) same-seen (q .cache);
-        group = group-left (plainFacts lengths (m .plain) c) c (m .plain) (q .group) refl r;
-      },
+    -- an accepted look, and an accepted act that steps
+    looks : (t : K .Storage) (x : Look) (a : Answer) → Looked K x s a t
+        → (a ≡ modelAnswer 0 m (ON (LOOK x))) × Mirrored K lengths t (modelStep 0 m (ON (LOOK x)))
+    unfolding modelAnswer modelStep plainStep cacheStep
+    looks t x a f = (
+      f .answer (q .well) ∙ ap₂ (λ v y. accepted v (holds y) (LOOK x)) same-seen (q .cache),
+      subst (λ y. Mirrored K lengths y m) (sym (f .kept)) q,
     )
 
+    follows : (t : K .Storage) (c : Act) (a : Answer) → K .lengths t ≡ K .lengths s → plainRefusal lengths (m .plain) (ON c) ≡ 0
+        → Stepped K c s a t → (a ≡ modelAnswer 0 m (ON c)) × Mirrored K lengths t (modelStep 0 m (ON c))
+    unfolding modelAnswer modelStep plainRefusal plainFacts plainSeen refusal
+    follows t c a kept r step =
+        let f = step .followed (q .well) in
+        let p : Steps c (K .registers s) (m .plain) = steps _ _ c (K .registers s) (m .plain) (q .settings) (q .group) refl (state-passed _ _ r) in (
+          f .answer ∙ ap₂ (λ v x. accepted v (holds x) c) same-seen (q .cache),
+          record {
+            well = f .well;
+            lent = kept ∙ q .lent;
+            settings =
+                ap (λ (x : Registers). x .settings) (step .registers)
+                ∙ (ap (λ (x : Figure). registersStep c (K .registers s) x .settings) (q .figure) ∙ p .settings);
+            figure = f .figure ∙ (ap (figureStep c (K .registers s)) (q .figure) ∙ sym (p .drawn));
+            cache = f .cache ∙ ap₂ (λ v x. cacheStep v c x) same-seen (q .cache);
+            group = p .group;
+          },
+        )
+
   starts : {asked : Settings} {a : Answer} {t : K .Storage} → K .lengths t ≡ lengths → Started K asked a t → Mirrored K lengths t (freshModel asked)
-  unfolding freshModel fresh
+  unfolding freshModel fresh atStart
   starts {asked} e f =
       record {
         well = f .well;
         lent = e;
-        settings = f .settings;
+        settings = ap (λ (x : Registers). x .settings) (f .registers);
         figure = f .figure ∙ sym (fresh-is asked);
         cache = f .cache;
         group = omega arith;
       }
 
+  same-number : (s t : K .Storage) (c : Call) (a : Answer) (m : Model) → Mirrored K lengths s m → (h : Promise K c s a t)
+      → refusal (factsOf K s) (h .lacking) c ≡ plainRefusal lengths (m .plain) c
+  same-number s t c a m q h = h .exact (q .well) ∙ same-refusal s m q c
+
   -- One call. Accepted,
-  accepts : (s t : K .Storage) (c : Call) (a : Answer) (m : Model) (q : Mirrored K lengths s m) (h : Promise K c s a t)
-      → refusal (plainFacts lengths (m .plain) c) c ≡ 0 → Accepted K c s a t
+  accepts : (s t : K .Storage) (c : Call) (a : Answer) (m : Model) (q : Mirrored K lengths s m) → K .lengths t ≡ K .lengths s
+      → plainRefusal lengths (m .plain) c ≡ 0 → Accepted K c s a t
       → (a ≡ modelAnswer 0 m c) × Mirrored K lengths t (modelStep 0 m c)
-  unfolding plainStep modelAnswer modelStep accepted cacheStep freshModel
-  accepts s t (RESET asked) a m q h r f = (f .answer, starts (h .lengths ∙ q .lent) f)
-  accepts s t (WRITE w x v) a m q h r f = follows s t (WRITE w x v) a m q h r refl (f (q .well))
-  accepts s t (READ w x) a m q h r f = follows s t (READ w x) a m q h r refl (f (q .well))
-  accepts s t (LINE l) a m q h r f = follows s t (LINE l) a m q h r refl (f .followed (q .well))
-  accepts s t (LINE-REFUSAL l) a m q h r f = follows s t (LINE-REFUSAL l) a m q h r refl (f .followed (q .well))
-  accepts s t MARK a m q h r f = follows s t MARK a m q h r refl (f (q .well))
-  accepts s t (ROLLBACK k) a m q h r f = follows s t (ROLLBACK k) a m q h r refl (f (q .well))
-  accepts s t (ADVANCE k) a m q h r f = follows s t (ADVANCE k) a m q h r refl (f (q .well))
-  accepts s t COUNTS a m q h r f = follows s t COUNTS a m q h r refl (f .followed (q .well))
+  unfolding modelAnswer modelStep
+  accepts s t (RESET asked) a m q h r f = (f .answer, starts (h ∙ q .lent) f)
   accepts s t CHECK a m q h r f = (f .answer ∙ ap (verdict 0) (f .always (q .well)), subst (λ x. Mirrored K lengths x m) (sym (f .kept)) q)
+  accepts s t (ON (READ w x)) a m q h r f = follows s m q t (READ w x) a h r f
+  accepts s t (ON (LOOK x)) a m q h r f = looks s m q t x a f
+  accepts s t (ON (CHANGE c)) a m q h r f = follows s m q t (CHANGE c) a h r f
 
   -- or refused, it answers as the model does and leaves a storage that the model's next state mirrors.
   answers : (s t : K .Storage) (c : Call) (a : Answer) (m : Model) (q : Mirrored K lengths s m) (h : Promise K c s a t)
-      (n : ℕ) → refusal (plainFacts lengths (m .plain) c) c ≡ n → (a ≡ modelAnswer n m c) × Mirrored K lengths t (modelStep n m c)
+      (n : ℕ) → plainRefusal lengths (m .plain) c ≡ n → (a ≡ modelAnswer n m c) × Mirrored K lengths t (modelStep n m c)
   unfolding modelAnswer modelStep
-  answers s t c a m q h zero r = accepts s t c a m q h r (h .accepted-call (same-number s t c a m q h ∙ r))
+  answers s t c a m q h zero r = accepts s t c a m q (h .lengths) r (h .accepted-call (same-number s t c a m q h ∙ r))
   answers s t c a m q h (suc n) r =
-      let e : refusal (factsOf K s (h .full)) c ≡ suc n = same-number s t c a m q h ∙ r in
-      let z : refusal (factsOf K s (h .full)) c ≢ 0 = λ o. suc-ne-zero n (sym e ∙ o) in
+      let e : refusal (factsOf K s) (h .lacking) c ≡ suc n = same-number s t c a m q h ∙ r in
+      let z : refusal (factsOf K s) (h .lacking) c ≢ 0 = λ o. suc-ne-zero n (sym e ∙ o) in
       (h .refused-answer z ∙ ap (λ k. refused k c) e, subst (λ x. Mirrored K lengths x m) (sym (h .refused-kept z)) q)
 
   -- A list of calls on a storage that the model mirrors.
@@ -110,7 +124,7 @@ module _ (K : Kind) (law : Lawful K) (lengths : Pieces) where
   unfolding answersFrom
   run-answers m q stop = refl
   run-answers m q (next {s = s} {t = t} {c = c} {a = a} h rest) =
-      let n : ℕ = refusal (plainFacts lengths (m .plain) c) c in
+      let n : ℕ = plainRefusal lengths (m .plain) c in
       let one = answers s t c a m q h n refl in
       ap₂ (λ x xs. x ∷ xs) (one .0) (run-answers (modelStep n m c) (one .1) rest)
 
@@ -119,16 +133,17 @@ module _ (K : Kind) (law : Lawful K) (lengths : Pieces) where
       → K .Well u
   run-well m q stop = q .well
   run-well m q (next {s = s} {t = t} {c = c} {a = a} h rest) =
-      let n : ℕ = refusal (plainFacts lengths (m .plain) c) c in
+      let n : ℕ = plainRefusal lengths (m .plain) c in
       run-well (modelStep n m c) (answers s t c a m q h n refl .1) rest
 
 -- an accepted RESET's answer says 0, so the chain refused nothing
-named-zero : {n : ℕ} → outcome 0 ≡ outcome n → n ≡ 0
-named-zero e = cc
+named-zero : (n : ℕ) (asked : Settings) → outcome 0 ≡ formOf (refused n (RESET asked)) → n ≡ 0
+unfolding refused
+named-zero n asked e = cc
 
 reset-mirrors : (K : Kind) (law : Lawful K) (s t : K .Storage) (asked : Settings) → Promise K (RESET asked) s (outcome 0) t
     → Mirrored K (K .lengths s) t (freshModel asked)
-reset-mirrors K law s t asked h = starts K law (K .lengths s) (h .lengths) (h .accepted-call (named-zero (h .number)))
+reset-mirrors K law s t asked h = starts K law (K .lengths s) (h .lengths) (h .accepted-call (named-zero _ asked (h .number)))
 
 -- DEMAND 3 holds of every kind of storage whose well-formedness is lawful. Who meets the hypotheses: the crate `store` proves `Lawful`
 -- of its storage and a Promise of each of its functions; Instance.antt does both for Figure 2 with Figure 3 itself.
@@ -146,16 +161,16 @@ reached-well K law s t u asked calls given h run =
 pub answers-as-history : (K : Kind) → Lawful K → AnswersAsHistory K
 answers-as-history K law s w =
     let f = law .figure s w in
-    let p : Plain = drawn (K .settings s) (figureOf K s) in
-    let kept : Surviving p = drawn-survives (K .settings s) (figureOf K s) f in
+    let p : Plain = drawn (K .registers s .settings) (K .figure s) in
+    let kept : Surviving p = drawn-survives (K .registers s .settings) (K .figure s) f in
     let q : Mirrored K (K .lengths s) s (record { plain = p; cache = K .cache s }) =
     record {
       well = w;
       lent = refl;
-      settings = sym (drawn-settings (K .settings s) (figureOf K s));
-      figure = sym (picture-drawn (K .settings s) (figureOf K s) f);
+      settings = sym (drawn-settings (K .registers s .settings) (K .figure s));
+      figure = sym (picture-drawn (K .registers s .settings) (K .figure s) f);
       cache = refl;
       group = kept .some-group;
     }
     in
-    (p, drawn-settings (K .settings s) (figureOf K s), kept, λ u calls given run. run-answers K law (K .lengths s) (record { plain = p; cache = K .cache s }) q run)
+    (p, drawn-settings (K .registers s .settings) (K .figure s), kept, λ u calls given run. run-answers K law (K .lengths s) (record { plain = p; cache = K .cache s }) q run)

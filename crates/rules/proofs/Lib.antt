@@ -5,6 +5,7 @@ pub mod Settings
 pub mod Line
 pub mod Width
 pub mod Circle
+pub mod Registers
 pub mod Count
 pub mod Picture
 pub mod Steps

@@ -8,8 +8,8 @@ use Prim.Native.Nat.{ℕ, _+_, _/_}
 use lib.Dec.{eqb}
 use lib.ListN.{length, getD, drop}
 use Rattle.rules.specs.Line.{Line, Memory, edit, lineOf, offsetOf}
-use Rattle.rules.specs.Call.{Origin}
-use Rattle.rules.specs.Call.Origin.{from-frame}
+use Rattle.rules.specs.Call.{Place}
+use Rattle.rules.specs.Call.Place.{in-frame}
 use Rattle.rules.specs.Seen.{further, count, needs}
 use Rattle.rules.specs.Plain.{Group, Plain, play, playGroup, playAll, touches, originIn, pagesIn, newest, plainSeen}
 use Rattle.rules.specs.Figure2.{Figure, isWritten, versionIn, foundIn, pagesOf, mrv, figureSeen}
@@ -60,7 +60,7 @@ origin-is : (gs : List Group) (base : Memory) (l : ℕ) → foundIn (length gs) 
 unfolding foundIn originIn frameIn
 origin-is [] base l = refl
 origin-is (g ∷ gs) base l =
-    ap₂ (λ (b : Bool) (o : Origin). cond b (from-frame 0) (further o)) (isWritten-cond (touches g l) _) (origin-is gs base l)
+    ap₂ (λ (b : Bool) (o : Place). cond b (in-frame 0) (further o)) (isWritten-cond (touches g l) _) (origin-is gs base l)
 
 pages-is : (blocks : ℕ) (gs : List Group) (base : Memory)
     → pagesOf blocks (length gs) (λ j l. isWritten (frameIn gs base j l)) ≡ pagesIn blocks gs

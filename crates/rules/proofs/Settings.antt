@@ -1,12 +1,12 @@
 -- Settings within their limits as linear facts, the two ways to the test, and the bound on lent memory. Assumes nothing.
 use mathlib.Core.Path.{_≡_, refl, sym, _∙_}
 use mathlib.Core.Bool.{Bool, true, false, not, cond}
-use Prim.Native.Nat.{ℕ, _+_, _*_, _/_, _%_, _≤_}
+use Prim.Native.Nat.{ℕ, _*_, _/_, _%_, _≤_}
 use native.Mathlib.Nat.{mul-le-mul, mul-le-mul-left, mul-le-mul-right, mul-comm, mul-assoc, mul-right-comm, div-mul-le-self}
 use native.Mathlib.Omega.{arith}
 use borrow.Author.Tests.{leb-true, eqb-true, le-leb, eq-eqb, not-true, not-false}
 use Rattle.rules.specs.Settings.{Settings, within, elements, bytes}
-use Rattle.rules.specs.Sizing.{settingsOf, sizesOf, noSizes, sizing}
+use Rattle.rules.specs.Sizing.{settingsOf, sizesOf, noSizes, sizing, Bounded}
 use Rattle.rules.proofs.Tests.{both-true}
 
 pub record Good (s : Settings) : Type 0 where
@@ -68,11 +68,14 @@ groups-bound l f = rw (mul-right-comm (f / 16) l 16, mul-comm l f) (mul-le-mul-r
 table-bound : (l f : ℕ) → f * (l / 8) * 8 ≤ l * f
 table-bound l f = rw (mul-assoc f (l / 8) 8, mul-comm l f) (mul-le-mul-left f (div-mul-le-self l 8))
 
--- "All other lent memory, in bytes, is at most L × F + 16 × P + 4,096 in total."
-pub lent-bound : (s : Settings)
-    → bytes s .groups + bytes s .table + bytes s .owners + bytes s .history ≤ s .lines * s .frames + 16 * s .pages + 4096
-unfolding bytes elements
-lent-bound s = omega (arith, groups-bound (s .lines) (s .frames), table-bound (s .lines) (s .frames))
+-- The sizing call's answer keeps the bound on lent memory, whatever the settings asked for, refused ones included.
+pub sizing-bound : (s : Settings) → Bounded s (sizing s)
+unfolding sizing sizesOf noSizes bytes elements
+sizing-bound s = go (within s)
+  where
+    go : (b : Bool) → Bounded s (cond b (sizesOf s) noSizes)
+    go true = omega (arith, groups-bound (s .lines) (s .frames), table-bound (s .lines) (s .frames))
+    go false = omega arith
 
 -- the products of the sizing call stay small
 pub record Small (l f : ℕ) : Type 0 where

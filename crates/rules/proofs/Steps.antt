@@ -13,12 +13,14 @@ use lib.Seq.{getD-drop, drop-drop}
 use borrow.Author.Tests.{lt-ltb}
 use Rattle.rules.specs.Settings.{Settings}
 use Rattle.rules.specs.Line.{Line, Memory, edit, lineOf, offsetOf, zeros}
-use Rattle.rules.specs.Call.{Call}
-use Rattle.rules.specs.Call.Call.{RESET, WRITE, READ, LINE, LINE-REFUSAL, MARK, ROLLBACK, ADVANCE, COUNTS, CHECK}
-use Rattle.rules.specs.Refusal.{Facts, refusal}
-use Rattle.rules.specs.Plain.{Write, Group, Plain, play, playGroup, playAll, touches, addWrite, fresh, plainStep}
-use Rattle.rules.specs.Figure2.{versionIn, mrv, omrv, initial, written, marked, figureStep}
-use Rattle.rules.proofs.Chain.{state-passed, marked-passed}
+use Rattle.rules.specs.Call.{Act}
+use Rattle.rules.specs.Call.Change.{WRITE, MARK, ROLLBACK, ADVANCE}
+use Rattle.rules.specs.Call.Act.{READ, LOOK, CHANGE}
+use Rattle.rules.specs.Refusal.{Facts, actRefusal}
+use Rattle.rules.specs.Plain.{Write, Group, Plain, withGroups, play, playGroup, playAll, touches, addWrite, fresh, plainStep}
+use Rattle.rules.specs.Registers.{Registers}
+use Rattle.rules.specs.Figure2.{withFrames, versionIn, mrv, omrv, initial, written, marked, figureStep, registersStep}
+use Rattle.rules.proofs.Chain.{marked-passed}
 use Rattle.rules.proofs.Picture.{frameIn, picture, version-is, getD-cond}
 
 cond-same : {A : Type 0} (b : Bool) (x : A) → cond b x x ≡ x
@@ -70,9 +72,12 @@ unfolding addWrite
 added w [] = refl
 added w (g ∷ gs) = refl
 
-module _ (s : Settings) (base : Memory) where
+module _ (r : Registers) (p : Plain) where
+  abbrev base : Memory
+  base = p .base
+
   holding : List Group → Plain
-  holding gs = record { settings = s; base = base; groups = gs }
+  holding gs = withGroups gs p
 
   written-is : (w a v : ℕ) (g : Group) (gs : List Group) (j l : ℕ)
       → frameIn (addWrite (record { width = w; address = a; value = v }) (g ∷ gs)) base j l ≡ written w a v (picture (holding (g ∷ gs))) j l
@@ -89,27 +94,23 @@ module _ (s : Settings) (base : Memory) where
   written-is w a v g gs (suc j) l = refl
 
   write-step : (w a v : ℕ) (gs : List Group) → 0 < length gs
-      → picture (plainStep (WRITE w a v) (holding gs)) ≡ figureStep (WRITE w a v) (picture (holding gs))
+      → picture (plainStep (CHANGE (WRITE w a v)) (holding gs)) ≡ figureStep (CHANGE (WRITE w a v)) r (picture (holding gs))
   unfolding plainStep figureStep holding picture addWrite
   write-step w a v [] h = absurd (omega arith)
-  write-step w a v (g ∷ gs) h = λ i. record {
-    live = suc (length gs);
-    frame = λ j l. written-is w a v g gs j l i;
-    archive = base;
-  }
+  write-step w a v (g ∷ gs) h = λ i. withFrames (suc (length gs)) (λ j l. written-is w a v g gs j l i) (picture (holding (g ∷ gs)))
 
   marked-is : (gs : List Group) (j l : ℕ) → frameIn ([] ∷ gs) base j l ≡ marked (picture (holding gs)) j l
   unfolding frameIn marked picture holding touches
   marked-is gs zero l = refl
   marked-is gs (suc j) l = refl
 
-  mark-step : (gs : List Group) → picture (plainStep MARK (holding gs)) ≡ figureStep MARK (picture (holding gs))
+  mark-step : (gs : List Group) → picture (plainStep (CHANGE MARK) (holding gs)) ≡ figureStep (CHANGE MARK) r (picture (holding gs))
   unfolding plainStep figureStep holding picture
-  mark-step gs = λ i. record { live = sym (add-one (length gs)) i; frame = λ j l. marked-is gs j l i; archive = base }
+  mark-step gs = λ i. withFrames (sym (add-one (length gs)) i) (λ j l. marked-is gs j l i) (picture (holding gs))
 
-  rollback-step : (k : ℕ) (gs : List Group) → picture (plainStep (ROLLBACK k) (holding gs)) ≡ figureStep (ROLLBACK k) (picture (holding gs))
+  rollback-step : (k : ℕ) (gs : List Group) → picture (plainStep (CHANGE (ROLLBACK k)) (holding gs)) ≡ figureStep (CHANGE (ROLLBACK k)) r (picture (holding gs))
   unfolding plainStep figureStep holding picture
-  rollback-step k gs = λ i. record { live = length-drop k gs i; frame = λ j l. frame-drop k gs base j l i; archive = base }
+  rollback-step k gs = λ i. withFrames (length-drop k gs i) (λ j l. frame-drop k gs base j l i) (picture (holding gs))
 
   -- the version among the k oldest frames is what playing the k oldest groups gives
   omrv-is : (k : ℕ) (gs : List Group) → k ≤ length gs → (l : ℕ)
@@ -125,7 +126,7 @@ module _ (s : Settings) (base : Memory) where
   length-kept k gs h = length-take (length gs - k) gs ∙ omega arith
 
   advance-step : (k : ℕ) (gs : List Group) → k ≤ length gs
-      → picture (plainStep (ADVANCE k) (holding gs)) ≡ figureStep (ADVANCE k) (picture (holding gs))
+      → picture (plainStep (CHANGE (ADVANCE k)) (holding gs)) ≡ figureStep (CHANGE (ADVANCE k)) r (picture (holding gs))
   unfolding plainStep figureStep holding picture
   advance-step k gs h = λ i. record {
     live = length-kept k gs h i;
@@ -133,38 +134,40 @@ module _ (s : Settings) (base : Memory) where
     archive = λ l. omrv-is k gs h l i;
   }
 
--- an accepted call of the plain store, which has a group, is Figure 2's step of its picture,
-pub step-is : (g : Facts) (c : Call) (p : Plain) → 0 < length (p .groups) → g .live ≡ length (p .groups) → refusal g c ≡ 0
-    → picture (plainStep c p) ≡ figureStep c (picture p)
-unfolding plainStep figureStep refusal holding
-step-is g (RESET s) p h e r = fresh-is s
-step-is g (WRITE w a v) p h e r = write-step (p .settings) (p .base) w a v (p .groups) h
-step-is g (READ w a) p h e r = refl
-step-is g (LINE l) p h e r = refl
-step-is g (LINE-REFUSAL l) p h e r = refl
-step-is g MARK p h e r = mark-step (p .settings) (p .base) (p .groups)
-step-is g (ROLLBACK k) p h e r = rollback-step (p .settings) (p .base) k (p .groups)
-step-is g (ADVANCE k) p h e r =
-    let m = marked-passed (g .live) k (state-passed g _ r) in
-    advance-step (p .settings) (p .base) k (p .groups) (omega arith)
-step-is g COUNTS p h e r = refl
-step-is g CHECK p h e r = refl
+-- An act of the plain store, beside registers: it is Figure 2's step of the picture, it leaves a group, and the settings stay one.
+pub record Steps (c : Act) (r : Registers) (p : Plain) : Type 0 where
+  pub drawn : picture (plainStep c p) ≡ figureStep c r (picture p)
+  pub group : 0 < length (plainStep c p .groups)
+  pub settings : registersStep c r (picture p) .settings ≡ plainStep c p .settings
 
--- and leaves it a group.
-pub group-left : (g : Facts) (c : Call) (p : Plain) → 0 < length (p .groups) → g .live ≡ length (p .groups) → refusal g c ≡ 0
-    → 0 < length (plainStep c p .groups)
-unfolding plainStep refusal fresh
-group-left g (RESET s) p h e r = omega arith
-group-left g (WRITE w a v) p h e r = rw (added (record { width = w; address = a; value = v }) (p .groups)) h
-group-left g (READ w a) p h e r = h
-group-left g (LINE l) p h e r = h
-group-left g (LINE-REFUSAL l) p h e r = h
-group-left g MARK p h e r = zero-lt-suc (length (p .groups))
-group-left g (ROLLBACK k) p h e r =
-    let m = marked-passed (g .live) k (state-passed g _ r) in
-    omega (arith, length-drop k (p .groups))
-group-left g (ADVANCE k) p h e r =
-    let m = marked-passed (g .live) k (state-passed g _ r) in
-    omega (arith, length-kept (p .settings) (p .base) k (p .groups) (omega arith))
-group-left g COUNTS p h e r = h
-group-left g CHECK p h e r = h
+-- So does each that is accepted, where there is a group.
+pub steps : (g : Facts) (lacking : Bool) (c : Act) (x : Registers) (p : Plain) → x .settings ≡ p .settings → 0 < length (p .groups) → g .live ≡ length (p .groups) → actRefusal g lacking c ≡ 0 → Steps c x p
+unfolding plainStep figureStep registersStep actRefusal holding
+steps g lacking (READ w a) x p s h e r = record { drawn = refl; group = h; settings = s }
+steps g lacking (LOOK q) x p s h e r = record { drawn = refl; group = h; settings = s }
+steps g lacking (CHANGE (WRITE w a v)) x p s h e r =
+    record {
+      drawn = write-step x p w a v (p .groups) h;
+      group = rw (added (record { width = w; address = a; value = v }) (p .groups)) h;
+      settings = s;
+    }
+steps g lacking (CHANGE MARK) x p s h e r =
+    record {
+      drawn = mark-step x p (p .groups);
+      group = zero-lt-suc (length (p .groups));
+      settings = s;
+    }
+steps g lacking (CHANGE (ROLLBACK k)) x p s h e r =
+    let m = marked-passed (g .live) k r in
+    record {
+      drawn = rollback-step x p k (p .groups);
+      group = omega (arith, length-drop k (p .groups));
+      settings = s;
+    }
+steps g lacking (CHANGE (ADVANCE k)) x p s h e r =
+    let m = marked-passed (g .live) k r in
+    record {
+      drawn = advance-step x p k (p .groups) (omega arith);
+      group = omega (arith, length-kept x p k (p .groups) (omega arith));
+      settings = s;
+    }

@@ -12,8 +12,10 @@ use lib.ListN.{getD, replicate}
 use Rattle.rules.specs.Settings.{Settings}
 use Rattle.rules.specs.Line.{Line, IsLine, zeros, edit, lineOf, offsetOf, blockOf}
 use Rattle.rules.specs.Seen.{needs}
-use Rattle.rules.specs.Figure2.{Figure, isWritten, versionIn, pagesOf, mrv, omrv, initial, written, marked, figureStep, figureSeen}
-use Rattle.rules.specs.Call.Call.{WRITE, MARK, ROLLBACK, ADVANCE}
+use Rattle.rules.specs.Registers.{Registers}
+use Rattle.rules.specs.Figure2.{Figure, withFrames, isWritten, versionIn, pagesOf, mrv, omrv, initial, written, marked, figureStep, figureSeen}
+use Rattle.rules.specs.Call.Change.{WRITE, MARK, ROLLBACK, ADVANCE}
+use Rattle.rules.specs.Call.Act.{CHANGE}
 use Rattle.rules.specs.Promise.{WellFigure}
 use Rattle.rules.proofs.Chain.{Placed}
 use Rattle.rules.proofs.Settings.{Good}
@@ -59,7 +61,7 @@ initial-well s g =
       pages = omega (arith, blocks-none (s .lines / 8) (λ l. false) (λ l. refl));
     }
 
-module _ (s : Settings) (f : Figure) (q : WellFigure s f) where
+module _ (s : Settings) (r : Registers) (f : Figure) (q : WellFigure s f) where
   recent-line : (l : ℕ) → IsLine (mrv f l)
   unfolding mrv
   recent-line l = version-line (f .live) (λ j. f .frame j l) (f .archive l) (λ j. q .line j l) (q .archive-line l)
@@ -71,7 +73,7 @@ module _ (s : Settings) (f : Figure) (q : WellFigure s f) where
       × ((j l : ℕ) (x : Line) → rows j l ≡ some x → IsLine x)
 
   with-frames : (live : ℕ) (rows : ℕ → ℕ → Option Line) → 0 < live → live ≤ s .frames → Frames live rows
-      → pagesOf (s .lines / 8) live (λ j l. isWritten (rows j l)) ≤ s .pages → WellFigure s (record { live = live; frame = rows; archive = f .archive })
+      → pagesOf (s .lines / 8) live (λ j l. isWritten (rows j l)) ≤ s .pages → WellFigure s (withFrames live rows f)
   unfolding figureSeen
   with-frames live rows a b h p =
       record {
@@ -109,14 +111,14 @@ module _ (s : Settings) (f : Figure) (q : WellFigure s f) where
   unfolding pagesOf marked isWritten
   marked-pages blocks n = rw add-one (omega (arith, blocks-none blocks (λ l. false) (λ l. refl)))
 
-  pub mark-well : f .live < s .frames → WellFigure s (figureStep MARK f)
+  pub mark-well : f .live < s .frames → WellFigure s (figureStep (CHANGE MARK) r f)
   unfolding figureStep
   mark-well h =
       with-frames (f .live + 1) (marked f) (omega arith) (omega arith) (marked-live, marked-lines, marked-line)
       (rw (marked-pages (s .lines / 8) (f .live)) held)
 
   -- ROLLBACK
-  pub rollback-well : (k : ℕ) → k ≤ f .live - 1 → WellFigure s (figureStep (ROLLBACK k) f)
+  pub rollback-well : (k : ℕ) → k ≤ f .live - 1 → WellFigure s (figureStep (CHANGE (ROLLBACK k)) r f)
   unfolding figureStep
   rollback-well k h =
       with-frames (f .live - k) (λ j l. f .frame (k + j) l) (omega (arith, q .some-live)) (omega (arith, q .in-circle))
@@ -139,7 +141,7 @@ module _ (s : Settings) (f : Figure) (q : WellFigure s f) where
             (λ j b. ap {B = ℕ → Bool} (λ (t : Bool) (l : ℕ). isWritten (cond t (f .frame j l) none)) (lt-ltb j m b)),
       )
 
-  pub advance-well : (k : ℕ) → k ≤ f .live - 1 → WellFigure s (figureStep (ADVANCE k) f)
+  pub advance-well : (k : ℕ) → k ≤ f .live - 1 → WellFigure s (figureStep (CHANGE (ADVANCE k)) r f)
   unfolding figureStep figureSeen omrv
   advance-well k h =
       record {
@@ -220,7 +222,7 @@ module _ (s : Settings) (f : Figure) (q : WellFigure s f) where
     written-pages blocks (suc n) h (inr room) most = omega (arith, blocks-more row more (lineOf a) more-now more-rest blocks)
 
     pub write-well : (needs (λ l. isWritten (f .frame 0 l)) (blockOf (lineOf a)) ≡ true) ⊎ (figureSeen s f .pages < s .pages)
-        → WellFigure s (figureStep (WRITE w a v) f)
+        → WellFigure s (figureStep (CHANGE (WRITE w a v)) r f)
     unfolding figureStep figureSeen row
     write-well free =
         with-frames (f .live) (written w a v f) (q .some-live) (q .in-circle) (written-live, written-lines, written-line)

@@ -1,16 +1,20 @@
 -- "Cases at the edges (P: proved)": the P cases of document 01 as one table of lists of calls with their answers, the whole session
 -- of document 01 with its output as the last row.
 use Prim.Native.Nat.{ℕ, suc}
-use mathlib.Core.Bool.{Bool, true, cond}
+use mathlib.Core.Bool.{Bool, cond}
 use mathlib.Core.List.{List, [], _∷_, _++_}
 use lib.ListN.{replicate}
 use lib.Dec.{eqb}
 use Rattle.rules.specs.Settings.{Settings, Pieces, elements}
 use Rattle.rules.specs.Sizing.{settingsOf}
-use Rattle.rules.specs.Call.{Call, Answer}
-use Rattle.rules.specs.Call.Origin.{from-cache, from-frame, from-archive}
-use Rattle.rules.specs.Call.Answer.{outcome, reading, lending, counting, verdict}
-use Rattle.rules.specs.Call.Call.{RESET, WRITE, READ, MARK, ROLLBACK, ADVANCE, COUNTS}
+use Rattle.rules.specs.Call.{Call, Answer, numberIn}
+use Rattle.rules.specs.Call.Place.{in-frame, in-archive}
+use Rattle.rules.specs.Call.Origin.{from-cache, from}
+use Rattle.rules.specs.Call.Answer.{outcome, reading, counting}
+use Rattle.rules.specs.Call.Look.{COUNTS}
+use Rattle.rules.specs.Call.Change.{WRITE, MARK, ROLLBACK, ADVANCE}
+use Rattle.rules.specs.Call.Act.{READ, LOOK, CHANGE}
+use Rattle.rules.specs.Call.Call.{RESET, ON}
 use Rattle.rules.specs.Refusal.{askedRefusal}
 use Rattle.rules.specs.Plain.{answersFrom, freshModel}
 
@@ -25,6 +29,24 @@ pub record Row : Type 0 where
 
 abbrev reset : (lines frames pages : ℕ) → Call
 reset lines frames pages = RESET (settingsOf lines frames pages)
+
+abbrev write : (width address value : ℕ) → Call
+write width address value = ON (CHANGE (WRITE width address value))
+
+abbrev read : (width address : ℕ) → Call
+read width address = ON (READ width address)
+
+abbrev mark : Call
+mark = ON (CHANGE MARK)
+
+abbrev back : (k : ℕ) → Call
+back k = ON (CHANGE (ROLLBACK k))
+
+abbrev advance : (k : ℕ) → Call
+advance k = ON (CHANGE (ADVANCE k))
+
+abbrev counts : Call
+counts = ON (LOOK COUNTS)
 
 abbrev ok : Answer
 ok = outcome 0
@@ -54,23 +76,23 @@ rows =
     -- "L = 8: read 4 at 124 passes, at 128 gets 9; read 2 at 127 gets 8."
     ∷ record {
       asked = settingsOf 8 16 1;
-      calls = READ 4 124 ∷ READ 4 128 ∷ READ 2 127 ∷ [];
-      answers = ok ∷ reading 0 0 from-archive ∷ reading 9 0 from-archive ∷ reading 8 0 from-archive ∷ [];
+      calls = read 4 124 ∷ read 4 128 ∷ read 2 127 ∷ [];
+      answers = ok ∷ reading 0 0 (from in-archive) ∷ reading 9 0 (from in-archive) ∷ reading 8 0 (from in-archive) ∷ [];
       oks = 2;
       noes = 2;
     }
     -- "width 3 at address 1 gets 7."
     ∷ record {
       asked = settingsOf 8 16 1;
-      calls = READ 3 1 ∷ WRITE 3 1 0 ∷ [];
-      answers = ok ∷ reading 7 0 from-archive ∷ refuse 7 ∷ [];
+      calls = read 3 1 ∷ write 3 1 0 ∷ [];
+      answers = ok ∷ reading 7 0 (from in-archive) ∷ refuse 7 ∷ [];
       oks = 1;
       noes = 2;
     }
     -- "width 1: 255 passes, 256 gets 10; 256 at address 128 gets 9 where L = 8."
     ∷ record {
       asked = settingsOf 8 16 1;
-      calls = WRITE 1 0 255 ∷ WRITE 1 0 256 ∷ WRITE 1 128 256 ∷ [];
+      calls = write 1 0 255 ∷ write 1 0 256 ∷ write 1 128 256 ∷ [];
       answers = ok ∷ ok ∷ refuse 10 ∷ refuse 9 ∷ [];
       oks = 2;
       noes = 2;
@@ -78,7 +100,7 @@ rows =
     -- "F = 16: 15 marks pass, the 16th gets 12; after ADVANCE(1) one more passes."
     ∷ record {
       asked = settingsOf 8 16 1;
-      calls = replicate 15 MARK ++ (MARK ∷ ADVANCE 1 ∷ MARK ∷ MARK ∷ []);
+      calls = replicate 15 mark ++ (mark ∷ advance 1 ∷ mark ∷ mark ∷ []);
       answers = ok ∷ replicate 15 ok ++ (refuse 12 ∷ ok ∷ ok ∷ refuse 12 ∷ []);
       oks = 18;
       noes = 2;
@@ -86,7 +108,7 @@ rows =
     -- "three marks: ROLLBACK 3 passes; 4 and 0 get 11."
     ∷ record {
       asked = settingsOf 8 16 1;
-      calls = MARK ∷ MARK ∷ MARK ∷ ROLLBACK 4 ∷ ROLLBACK 0 ∷ ROLLBACK 3 ∷ [];
+      calls = mark ∷ mark ∷ mark ∷ back 4 ∷ back 0 ∷ back 3 ∷ [];
       answers = ok ∷ ok ∷ ok ∷ ok ∷ refuse 11 ∷ refuse 11 ∷ ok ∷ [];
       oks = 5;
       noes = 2;
@@ -94,7 +116,7 @@ rows =
     -- "write 7, mark, mark, advance 2: read gives 7, pages needed 0."
     ∷ record {
       asked = settingsOf 8 16 1;
-      calls = WRITE 1 0 7 ∷ MARK ∷ MARK ∷ ADVANCE 2 ∷ READ 1 0 ∷ COUNTS ∷ [];
+      calls = write 1 0 7 ∷ mark ∷ mark ∷ advance 2 ∷ read 1 0 ∷ counts ∷ [];
       answers = ok ∷ ok ∷ ok ∷ ok ∷ ok ∷ reading 0 7 from-cache ∷ counting 0 1 0 ∷ [];
       oks = 7;
       noes = 0;
@@ -102,15 +124,15 @@ rows =
     -- "write 5, mark, write 6, mark, back 2: read gives 5."
     ∷ record {
       asked = settingsOf 8 16 2;
-      calls = WRITE 1 0 5 ∷ MARK ∷ WRITE 1 0 6 ∷ MARK ∷ ROLLBACK 2 ∷ READ 1 0 ∷ [];
-      answers = ok ∷ ok ∷ ok ∷ ok ∷ ok ∷ ok ∷ reading 0 5 (from-frame 0) ∷ [];
+      calls = write 1 0 5 ∷ mark ∷ write 1 0 6 ∷ mark ∷ back 2 ∷ read 1 0 ∷ [];
+      answers = ok ∷ ok ∷ ok ∷ ok ∷ ok ∷ ok ∷ reading 0 5 (from (in-frame 0)) ∷ [];
       oks = 7;
       noes = 0;
     }
     -- "write 5, mark, back 1, write 6, mark, back 1: read gives 6."
     ∷ record {
       asked = settingsOf 8 16 1;
-      calls = WRITE 1 0 5 ∷ MARK ∷ ROLLBACK 1 ∷ WRITE 1 0 6 ∷ MARK ∷ ROLLBACK 1 ∷ READ 1 0 ∷ [];
+      calls = write 1 0 5 ∷ mark ∷ back 1 ∷ write 1 0 6 ∷ mark ∷ back 1 ∷ read 1 0 ∷ [];
       answers = ok ∷ ok ∷ ok ∷ ok ∷ ok ∷ ok ∷ ok ∷ reading 0 6 from-cache ∷ [];
       oks = 8;
       noes = 0;
@@ -119,18 +141,18 @@ rows =
     ∷ record {
       asked = settingsOf 8 16 2;
       calls =
-          WRITE 4 0 305419896
-          ∷ MARK
-          ∷ WRITE 1 1 255
-          ∷ READ 4 0
-          ∷ MARK
-          ∷ WRITE 1 2 1
-          ∷ ROLLBACK 2
-          ∷ READ 4 0
-          ∷ READ 1 16
-          ∷ ROLLBACK 1
-          ∷ READ 2 1
-          ∷ COUNTS
+          write 4 0 305419896
+          ∷ mark
+          ∷ write 1 1 255
+          ∷ read 4 0
+          ∷ mark
+          ∷ write 1 2 1
+          ∷ back 2
+          ∷ read 4 0
+          ∷ read 1 16
+          ∷ back 1
+          ∷ read 2 1
+          ∷ counts
           ∷ [];
       answers =
           ok
@@ -141,10 +163,10 @@ rows =
           ∷ ok
           ∷ refuse 13
           ∷ ok
-          ∷ reading 0 305419896 (from-frame 0)
-          ∷ reading 0 0 from-archive
+          ∷ reading 0 305419896 (from (in-frame 0))
+          ∷ reading 0 0 (from in-archive)
           ∷ refuse 11
-          ∷ reading 8 0 from-archive
+          ∷ reading 8 0 (from in-archive)
           ∷ counting 0 1 1
           ∷ [];
       oks = 10;
@@ -158,11 +180,7 @@ ample = elements (settingsOf 4096 256 4096)
 
 -- Acceptances and refusals, as the runner's tally counts them.
 unfoldable pub isOk : Answer → Bool
-isOk (outcome n) = eqb n 0
-isOk (reading n v o) = eqb n 0
-isOk (lending x) = true
-isOk (counting n live pages) = eqb n 0
-isOk (verdict n b) = eqb n 0
+isOk a = eqb (numberIn a) 0
 
 unfoldable pub oksOf : List Answer → ℕ
 oksOf [] = 0

@@ -22,6 +22,6 @@ Demand3 K =
 abbrev pub AnswersAsHistory : Kind → Type 0
 AnswersAsHistory K =
     (s : K .Storage) → K .Well s
-    → (p : Plain) × (p .settings ≡ K .settings s) × Surviving p
+    → (p : Plain) × (p .settings ≡ K .registers s .settings) × Surviving p
     × ((u : K .Storage) (calls : List Call) (given : List Answer) → Run K s calls given u
     → given ≡ answersFrom (K .lengths s) (record { plain = p; cache = K .cache s }) calls)

@@ -6,9 +6,11 @@ use mathlib.Core.Option.{Option, none, some, Option·getD}
 use lib.Dec.{ltb, eqb}
 use Rattle.rules.specs.Settings.{Settings}
 use Rattle.rules.specs.Line.{Line, Memory, zeros, edit, lineOf, offsetOf}
-use Rattle.rules.specs.Call.{Call, Origin}
-use Rattle.rules.specs.Call.Origin.{from-frame, from-archive}
-use Rattle.rules.specs.Call.Call.{RESET, WRITE, READ, LINE, LINE-REFUSAL, MARK, ROLLBACK, ADVANCE, COUNTS, CHECK}
+use Rattle.rules.specs.Call.{Act, Place}
+use Rattle.rules.specs.Call.Place.{in-frame, in-archive}
+use Rattle.rules.specs.Call.Change.{WRITE, MARK, ROLLBACK, ADVANCE}
+use Rattle.rules.specs.Call.Act.{READ, LOOK, CHANGE}
+use Rattle.rules.specs.Registers.{Registers, movedTo}
 use Rattle.rules.specs.Seen.{Seen, further, count, needs}
 
 -- The stack of mark frames and the archive. A frame is named by the marks back from CMF, 0 for CMF itself, so that the circle
@@ -17,6 +19,10 @@ pub record Figure : Type 0 where
   pub live : ℕ
   pub frame : ℕ → ℕ → Option Line
   pub archive : Memory
+
+-- The same figure with other frames.
+abbrev pub withFrames : (live : ℕ) → (ℕ → ℕ → Option Line) → Figure → Figure
+withFrames live frame f = record { live = live; frame = frame; archive = f .archive }
 
 unfoldable pub isWritten : Option Line → Bool
 isWritten none = false
@@ -29,9 +35,9 @@ versionIn zero row other = other
 versionIn (suc n) row other = Option·getD (row 0) (versionIn n (λ j. row (suc j)) other)
 
 -- In which frame of the row the search finds it.
-unfoldable pub foundIn : (n : ℕ) → (ℕ → Bool) → Origin
-foundIn zero written = from-archive
-foundIn (suc n) written = cond (written 0) (from-frame 0) (further (foundIn n (λ j. written (suc j))))
+unfoldable pub foundIn : (n : ℕ) → (ℕ → Bool) → Place
+foundIn zero written = in-archive
+foundIn (suc n) written = cond (written 0) (in-frame 0) (further (foundIn n (λ j. written (suc j))))
 
 -- How many pages of n frames have a line with its written bit set.
 unfoldable pub pagesOf : (blocks n : ℕ) → (ℕ → ℕ → Bool) → ℕ
@@ -64,24 +70,29 @@ unfoldable pub marked : Figure → ℕ → ℕ → Option Line
 marked f zero l = none
 marked f (suc j) l = f .frame j l
 
--- Figure 2 after an accepted call. ROLLBACK: "WB[ln,fr]:=0 for all ln, CMF-k < fr ≤ CMF; CMF := CMF - k;". ADVANCE: "for each line
+-- Figure 2 after an accepted act. ROLLBACK: "WB[ln,fr]:=0 for all ln, CMF-k < fr ≤ CMF; CMF := CMF - k;". ADVANCE: "for each line
 -- ln do .. AFrame[ln] := Stack[ln,OMRV]; .. OMF := OMF + k;", and the collected frames are no more: document 01's "and frees them".
-unfoldable pub figureStep : Call → Figure → Figure
-figureStep (RESET s) f = initial
-figureStep (WRITE w a v) f = record { live = f .live; frame = written w a v f; archive = f .archive }
-figureStep (READ w a) f = f
-figureStep (LINE l) f = f
-figureStep (LINE-REFUSAL l) f = f
-figureStep MARK f = record { live = f .live + 1; frame = marked f; archive = f .archive }
-figureStep (ROLLBACK k) f = record { live = f .live - k; frame = λ j l. f .frame (k + j) l; archive = f .archive }
-figureStep (ADVANCE k) f =
+unfoldable pub figureStep : Act → Registers → Figure → Figure
+figureStep (READ w a) r f = f
+figureStep (LOOK q) r f = f
+figureStep (CHANGE (WRITE w a v)) r f = withFrames (f .live) (written w a v f) f
+figureStep (CHANGE MARK) r f = withFrames (f .live + 1) (marked f) f
+figureStep (CHANGE (ROLLBACK k)) r f = withFrames (f .live - k) (λ j l. f .frame (k + j) l) f
+figureStep (CHANGE (ADVANCE k)) r f =
     record {
       live = f .live - k;
       frame = λ j l. cond (ltb j (f .live - k)) (f .frame j l) none;
       archive = omrv f k;
     }
-figureStep COUNTS f = f
-figureStep CHECK f = f
+
+-- The registers after an accepted act: the stack "is implemented as a circular buffer", in document 01 "F frames used in a circle".
+unfoldable pub registersStep : Act → Registers → Figure → Registers
+registersStep (READ w a) r f = r
+registersStep (LOOK q) r f = r
+registersStep (CHANGE (WRITE w a v)) r f = r
+registersStep (CHANGE MARK) r f = movedTo ((r .cmf + 1) % r .settings .frames) (r .omf) r
+registersStep (CHANGE (ROLLBACK k)) r f = movedTo ((r .cmf + r .settings .frames - k) % r .settings .frames) (r .omf) r
+registersStep (CHANGE (ADVANCE k)) r f = movedTo (r .cmf) ((r .omf + k) % r .settings .frames) r
 
 -- What there is to see of Figure 2.
 unfoldable pub figureSeen : Settings → Figure → Seen
@@ -93,28 +104,3 @@ figureSeen s f =
       latest = mrv f;
       origin = λ l. foundIn (f .live) (λ j. isWritten (f .frame j l));
     }
-
--- The registers after an accepted call: the stack "is implemented as a circular buffer", in document 01 "F frames used in a circle".
-unfoldable pub cmfStep : (frames : ℕ) → Call → ℕ → ℕ
-cmfStep frames (RESET s) cmf = 0
-cmfStep frames (WRITE w a v) cmf = cmf
-cmfStep frames (READ w a) cmf = cmf
-cmfStep frames (LINE l) cmf = cmf
-cmfStep frames (LINE-REFUSAL l) cmf = cmf
-cmfStep frames MARK cmf = (cmf + 1) % frames
-cmfStep frames (ROLLBACK k) cmf = (cmf + frames - k) % frames
-cmfStep frames (ADVANCE k) cmf = cmf
-cmfStep frames COUNTS cmf = cmf
-cmfStep frames CHECK cmf = cmf
-
-unfoldable pub omfStep : (frames : ℕ) → Call → ℕ → ℕ
-omfStep frames (RESET s) omf = 0
-omfStep frames (WRITE w a v) omf = omf
-omfStep frames (READ w a) omf = omf
-omfStep frames (LINE l) omf = omf
-omfStep frames (LINE-REFUSAL l) omf = omf
-omfStep frames MARK omf = omf
-omfStep frames (ROLLBACK k) omf = omf
-omfStep frames (ADVANCE k) omf = (omf + k) % frames
-omfStep frames COUNTS omf = omf
-omfStep frames CHECK omf = omf

@@ -9,8 +9,9 @@ use lib.Dec.{eqb}
 use Rattle.rules.specs.Settings.{Settings}
 use Rattle.rules.specs.Line.{lineOf}
 use Rattle.rules.specs.Seen.{Seen, dropped}
-use Rattle.rules.specs.Call.{Call}
-use Rattle.rules.specs.Call.Call.{RESET, WRITE, READ, LINE, LINE-REFUSAL, MARK, ROLLBACK, ADVANCE, COUNTS, CHECK}
+use Rattle.rules.specs.Call.{Act}
+use Rattle.rules.specs.Call.Change.{WRITE, MARK, ROLLBACK, ADVANCE}
+use Rattle.rules.specs.Call.Act.{READ, LOOK, CHANGE}
 
 pub data Way : Type 0 where
   way0 way1 : Way
@@ -82,17 +83,13 @@ unfoldable pub forget : (ℕ → Bool) → Cache → Cache
 forget gone c set =
     record { first = unlessGone gone (c set .first); second = unlessGone gone (c set .second); last = c set .last }
 
--- The cache after an accepted call. "Rollback makes an entry invalid exactly if its line's most recent version lay in a dropped
+-- The cache after an accepted act. "Rollback makes an entry invalid exactly if its line's most recent version lay in a dropped
 -- frame. Lines collected by ADVANCE keep their entries and count as archive. Refused calls and MARK do not touch the cache."
 -- LINE "changes nothing, the cache included".
-unfoldable pub cacheStep : Seen → Call → Cache → Cache
-cacheStep v (RESET s) c = emptyCache
-cacheStep v (WRITE w a x) c = use-line (lineOf a) c
+unfoldable pub cacheStep : Seen → Act → Cache → Cache
 cacheStep v (READ w a) c = use-line (lineOf a) c
-cacheStep v (LINE l) c = c
-cacheStep v (LINE-REFUSAL l) c = c
-cacheStep v MARK c = c
-cacheStep v (ROLLBACK k) c = forget (λ l. dropped k (v .origin l)) c
-cacheStep v (ADVANCE k) c = c
-cacheStep v COUNTS c = c
-cacheStep v CHECK c = c
+cacheStep v (LOOK q) c = c
+cacheStep v (CHANGE (WRITE w a x)) c = use-line (lineOf a) c
+cacheStep v (CHANGE MARK) c = c
+cacheStep v (CHANGE (ROLLBACK k)) c = forget (λ l. dropped k (v .origin l)) c
+cacheStep v (CHANGE (ADVANCE k)) c = c

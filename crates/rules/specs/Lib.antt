@@ -1,6 +1,7 @@
 pub mod Settings
 pub mod Sizing
 pub mod Line
+pub mod Registers
 pub mod Call
 pub mod Seen
 pub mod Refusal

@@ -8,11 +8,14 @@ use lib.ListN.{length, take, drop}
 use lib.Dec.{eqb}
 use Rattle.rules.specs.Settings.{Settings, Pieces}
 use Rattle.rules.specs.Line.{Memory, IsLine, zeros, edit, lineOf, offsetOf}
-use Rattle.rules.specs.Call.{Call, Origin, Answer, refused}
-use Rattle.rules.specs.Call.Origin.{from-frame, from-archive}
-use Rattle.rules.specs.Call.Call.{RESET, WRITE, READ, LINE, LINE-REFUSAL, MARK, ROLLBACK, ADVANCE, COUNTS, CHECK}
+use Rattle.rules.specs.Call.{Act, Call, Place, Answer, refused}
+use Rattle.rules.specs.Call.Place.{in-frame, in-archive}
+use Rattle.rules.specs.Call.Answer.{outcome, verdict}
+use Rattle.rules.specs.Call.Change.{WRITE, MARK, ROLLBACK, ADVANCE}
+use Rattle.rules.specs.Call.Act.{READ, LOOK, CHANGE}
+use Rattle.rules.specs.Call.Call.{RESET, CHECK, ON}
 use Rattle.rules.specs.Seen.{Seen, further, count, needs, accepted}
-use Rattle.rules.specs.Refusal.{Facts, refusal, writeRefusal, noPage}
+use Rattle.rules.specs.Refusal.{Facts, refusal, writeRefusal, lacks}
 use Rattle.rules.specs.Figure3.{Cache, emptyCache, holds, cacheStep}
 
 pub record Write : Type 0 where
@@ -52,9 +55,9 @@ touches [] l = false
 touches (w ∷ g) l = eqb (lineOf (w .address)) l || touches g l
 
 -- "READ's origin is the count of groups after the last one that writes the line, or the archive if none does."
-unfoldable pub originIn : List Group → ℕ → Origin
-originIn [] l = from-archive
-originIn (g ∷ gs) l = cond (touches g l) (from-frame 0) (further (originIn gs l))
+unfoldable pub originIn : List Group → ℕ → Place
+originIn [] l = in-archive
+originIn (g ∷ gs) l = cond (touches g l) (in-frame 0) (further (originIn gs l))
 
 -- "A page is needed for each group and block of 8 lines .. with such a line": how many, among so many blocks.
 unfoldable pub pagesIn : (blocks : ℕ) → List Group → ℕ
@@ -78,6 +81,10 @@ plainSeen p =
       origin = originIn (p .groups);
     }
 
+-- The same store with other groups.
+abbrev pub withGroups : List Group → Plain → Plain
+withGroups gs p = record { settings = p .settings; base = p .base; groups = gs }
+
 -- "RESET gives a zero base and one empty group." "An accepted RESET takes its settings and starts the history anew."
 unfoldable pub fresh : Settings → Plain
 fresh s = record { settings = s; base = λ l. zeros; groups = [] ∷ [] }
@@ -89,27 +96,18 @@ addWrite w (g ∷ gs) = (w ∷ g) ∷ gs
 
 -- "MARK adds an empty group, ROLLBACK(k) drops the last k groups, ADVANCE(k) plays the first k groups onto the base", "and frees
 -- them"; "the other calls change nothing."
-unfoldable pub plainStep : Call → Plain → Plain
-plainStep (RESET s) p = fresh s
-plainStep (WRITE w a v) p =
-    record {
-      settings = p .settings;
-      base = p .base;
-      groups = addWrite (record { width = w; address = a; value = v }) (p .groups);
-    }
+unfoldable pub plainStep : Act → Plain → Plain
 plainStep (READ w a) p = p
-plainStep (LINE l) p = p
-plainStep (LINE-REFUSAL l) p = p
-plainStep MARK p = record { settings = p .settings; base = p .base; groups = [] ∷ p .groups }
-plainStep (ROLLBACK k) p = record { settings = p .settings; base = p .base; groups = drop k (p .groups) }
-plainStep (ADVANCE k) p =
+plainStep (LOOK q) p = p
+plainStep (CHANGE (WRITE w a v)) p = withGroups (addWrite (record { width = w; address = a; value = v }) (p .groups)) p
+plainStep (CHANGE MARK) p = withGroups ([] ∷ p .groups) p
+plainStep (CHANGE (ROLLBACK k)) p = withGroups (drop k (p .groups)) p
+plainStep (CHANGE (ADVANCE k)) p =
     record {
       settings = p .settings;
       base = playAll (drop (length (p .groups) - k) (p .groups)) (p .base);
       groups = take (length (p .groups) - k) (p .groups);
     }
-plainStep COUNTS p = p
-plainStep CHECK p = p
 
 -- A history that calls can have left: a group for each live frame, accepted writes alone, a base of 16 × L bytes, and no more pages
 -- needed than there are.
@@ -129,15 +127,11 @@ pub record Surviving (p : Plain) : Type 0 where
   pub pages : plainSeen p .pages ≤ p .settings .pages
 
 -- "From these it decides every refusal, the first in order; 5 never comes."
-unfoldable pub plainFacts : Pieces → Plain → Call → Facts
-plainFacts lengths p c =
-    record {
-      settings = p .settings;
-      fits = true;
-      lengths = lengths;
-      live = plainSeen p .live;
-      full = noPage (p .settings) (plainSeen p) c;
-    }
+unfoldable pub plainFacts : Pieces → Plain → Facts
+plainFacts lengths p = record { settings = p .settings; fits = true; lengths = lengths; live = plainSeen p .live }
+
+unfoldable pub plainRefusal : Pieces → Plain → Call → ℕ
+plainRefusal lengths p c = refusal (plainFacts lengths p) (lacks (p .settings) (plainSeen p)) c
 
 -- The plain store, with "demand 2's cache, run over the same list" (demand 3) beside it.
 pub record Model : Type 0 where
@@ -147,14 +141,18 @@ pub record Model : Type 0 where
 unfoldable pub freshModel : Settings → Model
 freshModel s = record { plain = fresh s; cache = emptyCache }
 
--- The answer, given the refusal or 0,
+-- The answer, given the refusal or 0; "CHECK yes",
 unfoldable pub modelAnswer : ℕ → Model → Call → Answer
-modelAnswer zero m c = accepted (plainSeen (m .plain)) (holds (m .cache)) c
+modelAnswer zero m (RESET s) = outcome 0
+modelAnswer zero m CHECK = verdict 0 true
+modelAnswer zero m (ON a) = accepted (plainSeen (m .plain)) (holds (m .cache)) a
 modelAnswer (suc n) m c = refused (suc n) c
 
 -- and what the call leaves: "A refused call gets the answer fixed below and changes nothing."
 unfoldable pub modelStep : ℕ → Model → Call → Model
-modelStep zero m c = record { plain = plainStep c (m .plain); cache = cacheStep (plainSeen (m .plain)) c (m .cache) }
+modelStep zero m (RESET s) = freshModel s
+modelStep zero m CHECK = m
+modelStep zero m (ON a) = record { plain = plainStep a (m .plain); cache = cacheStep (plainSeen (m .plain)) a (m .cache) }
 modelStep (suc n) m c = m
 
 -- "It is fed each call's arguments and the lent lengths, and nothing from the program's own record": the answers to a list of
@@ -162,5 +160,5 @@ modelStep (suc n) m c = m
 unfoldable pub answersFrom : Pieces → Model → List Call → List Answer
 answersFrom lengths m [] = []
 answersFrom lengths m (c ∷ cs) =
-    let n = refusal (plainFacts lengths (m .plain) c) c in
+    let n = plainRefusal lengths (m .plain) c in
     modelAnswer n m c ∷ answersFrom lengths (modelStep n m c) cs

@@ -6,27 +6,22 @@ use lib.Dec.{leb, ltb, eqb}
 use Rattle.rules.specs.Settings.{Settings, Pieces, within, enough}
 use Rattle.rules.specs.Line.{lineOf, blockOf}
 use Rattle.rules.specs.Seen.{Seen}
-use Rattle.rules.specs.Call.{Call}
-use Rattle.rules.specs.Call.Call.{RESET, WRITE, READ, LINE, LINE-REFUSAL, MARK, ROLLBACK, ADVANCE, COUNTS, CHECK}
+use Rattle.rules.specs.Call.{Act, Call}
+use Rattle.rules.specs.Call.Look.{LINE, LINE-REFUSAL, COUNTS}
+use Rattle.rules.specs.Call.Change.{WRITE, MARK, ROLLBACK, ADVANCE}
+use Rattle.rules.specs.Call.Act.{READ, LOOK, CHANGE}
+use Rattle.rules.specs.Call.Call.{RESET, CHECK, ON}
 
 -- One link of a chain: refusal n unless the test holds, and what the rest of the chain says if it does.
 unfoldable pub unless : Bool → ℕ → ℕ → ℕ
 unless true n rest = rest
 unless false n rest = n
 
--- "Live frames run from OMF to CMF round the circle": their number, by CMF, OMF and F alone.
-unfoldable pub liveFrames : (frames cmf omf : ℕ) → ℕ
-liveFrames frames cmf omf = (cmf + frames - omf) % frames + 1
-
--- The opposite of "The state given holds settings outside their limits, or a CMF or OMF outside 0 to F − 1."
-unfoldable pub stateFits : Settings → (cmf omf : ℕ) → Bool
-stateFits s cmf omf = within s && (ltb cmf (s .frames) && ltb omf (s .frames))
-
 -- The opposite of "The width is not 1, 2 or 4."
 unfoldable pub isWidth : ℕ → Bool
 isWidth w = eqb w 1 || eqb w 2 || eqb w 4
 
--- What the tests of a call look at, besides its arguments.
+-- What the tests of a call look at, besides its arguments and what the storage lacks.
 pub record Facts : Type 0 where
   -- the settings in the state, and whether the state is within its limits
   pub settings : Settings
@@ -35,21 +30,16 @@ pub record Facts : Type 0 where
   pub lengths : Pieces
   -- the live frames
   pub live : ℕ
-  -- whether 13's condition holds, for a WRITE
-  pub full : Bool
 
--- "WRITE's page in CMF is not needed yet and P pages are needed already."
-unfoldable pub noPage : Settings → Seen → Call → Bool
-noPage s v (WRITE w a x) = not (v .current (blockOf (lineOf a))) && leb (s .pages) (v .pages)
-noPage s v (RESET asked) = false
-noPage s v (READ w a) = false
-noPage s v (LINE l) = false
-noPage s v (LINE-REFUSAL l) = false
-noPage s v MARK = false
-noPage s v (ROLLBACK k) = false
-noPage s v (ADVANCE k) = false
-noPage s v COUNTS = false
-noPage s v CHECK = false
+-- Whether the storage lacks what an act needs, which is free where CHECK rejects it. 13: "WRITE's page in CMF is not needed yet and P pages
+-- are needed already."
+unfoldable pub lacks : Settings → Seen → Act → Bool
+lacks s v (READ w a) = false
+lacks s v (LOOK q) = false
+lacks s v (CHANGE (WRITE w a x)) = not (v .current (blockOf (lineOf a))) && leb (s .pages) (v .pages)
+lacks s v (CHANGE MARK) = false
+lacks s v (CHANGE (ROLLBACK k)) = false
+lacks s v (CHANGE (ADVANCE k)) = false
 
 -- 4 and 6, for the settings asked for: "L, F or P is outside its limits (RESET, sizing)."
 unfoldable pub askedRefusal : Pieces → Settings → ℕ
@@ -76,15 +66,19 @@ lineRefusal s l = unless (ltb l (s .lines)) 9 0
 unfoldable pub markedRefusal : (live k : ℕ) → ℕ
 markedRefusal live k = unless (ltb 0 k && leb k (live - 1)) 11 0
 
--- The refusal of a call, or 0. 12: "MARK finds all F frames live."
-unfoldable pub refusal : Facts → Call → ℕ
-refusal g (RESET asked) = askedRefusal (g .lengths) asked
-refusal g (WRITE w a x) = stateRefusal g (writeRefusal (g .settings) w a x (unless (not (g .full)) 13 0))
-refusal g (READ w a) = stateRefusal g (placeRefusal (g .settings) w a 0)
-refusal g (LINE l) = stateRefusal g (lineRefusal (g .settings) l)
-refusal g (LINE-REFUSAL l) = stateRefusal g (lineRefusal (g .settings) l)
-refusal g MARK = stateRefusal g (unless (ltb (g .live) (g .settings .frames)) 12 0)
-refusal g (ROLLBACK k) = stateRefusal g (markedRefusal (g .live) k)
-refusal g (ADVANCE k) = stateRefusal g (markedRefusal (g .live) k)
-refusal g COUNTS = stateRefusal g 0
-refusal g CHECK = stateRefusal g 0
+-- An act's chain after 5 and 6, by whether the storage lacks what the act needs. 12: "MARK finds all F frames live."
+unfoldable pub actRefusal : Facts → (lacking : Bool) → Act → ℕ
+actRefusal g lacking (READ w a) = placeRefusal (g .settings) w a 0
+actRefusal g lacking (LOOK (LINE l)) = lineRefusal (g .settings) l
+actRefusal g lacking (LOOK (LINE-REFUSAL l)) = lineRefusal (g .settings) l
+actRefusal g lacking (LOOK COUNTS) = 0
+actRefusal g lacking (CHANGE (WRITE w a x)) = writeRefusal (g .settings) w a x (unless (not lacking) 13 0)
+actRefusal g lacking (CHANGE MARK) = unless (ltb (g .live) (g .settings .frames)) 12 0
+actRefusal g lacking (CHANGE (ROLLBACK k)) = markedRefusal (g .live) k
+actRefusal g lacking (CHANGE (ADVANCE k)) = markedRefusal (g .live) k
+
+-- The refusal of a call, or 0.
+unfoldable pub refusal : Facts → (lacking : Act → Bool) → Call → ℕ
+refusal g lacking (RESET asked) = askedRefusal (g .lengths) asked
+refusal g lacking CHECK = stateRefusal g 0
+refusal g lacking (ON a) = stateRefusal g (actRefusal g (lacking a) a)

@@ -1,13 +1,15 @@
 -- What there is to see of a store: with the settings, the lent lengths and the cache, all that a refusal or an answer goes by.
 -- The plain store and Figure 2 each say what is seen of them, and the answers are one function of it.
 use Prim.Native.Nat.{ℕ, zero, suc, _+_, _*_}
-use mathlib.Core.Bool.{Bool, true, false, cond, _||_}
+use mathlib.Core.Bool.{Bool, false, cond, _||_}
 use lib.Dec.{ltb}
 use Rattle.rules.specs.Line.{Line, lineOf, offsetOf, valueAt}
-use Rattle.rules.specs.Call.{Call, Origin, Answer}
-use Rattle.rules.specs.Call.Call.{RESET, WRITE, READ, LINE, LINE-REFUSAL, MARK, ROLLBACK, ADVANCE, COUNTS, CHECK}
-use Rattle.rules.specs.Call.Origin.{from-cache, from-frame, from-archive}
-use Rattle.rules.specs.Call.Answer.{outcome, reading, lending, counting, verdict}
+use Rattle.rules.specs.Call.{Act, Place, Answer}
+use Rattle.rules.specs.Call.Look.{LINE, LINE-REFUSAL, COUNTS}
+use Rattle.rules.specs.Call.Act.{READ, LOOK, CHANGE}
+use Rattle.rules.specs.Call.Place.{in-frame, in-archive}
+use Rattle.rules.specs.Call.Origin.{from-cache, from}
+use Rattle.rules.specs.Call.Answer.{outcome, reading, lending, counting}
 
 pub record Seen : Type 0 where
   -- the live frames
@@ -18,20 +20,18 @@ pub record Seen : Type 0 where
   pub current : ℕ → Bool
   -- by line, the most recent version
   pub latest : ℕ → Line
-  -- by line, where that version lies, the cache apart
-  pub origin : ℕ → Origin
+  -- by line, where that version lies
+  pub origin : ℕ → Place
 
--- A version that lies one frame further back. (What is seen of a store never names the cache.)
-unfoldable pub further : Origin → Origin
-further from-cache = from-cache
-further (from-frame back) = from-frame (suc back)
-further from-archive = from-archive
+-- A version that lies one frame further back.
+unfoldable pub further : Place → Place
+further (in-frame back) = in-frame (suc back)
+further in-archive = in-archive
 
 -- Whether a version lay in one of the k newest frames.
-unfoldable pub dropped : ℕ → Origin → Bool
-dropped k from-cache = false
-dropped k (from-frame back) = ltb back k
-dropped k from-archive = false
+unfoldable pub dropped : ℕ → Place → Bool
+dropped k (in-frame back) = ltb back k
+dropped k in-archive = false
 
 -- Some number below n passes the test.
 unfoldable pub any : ℕ → (ℕ → Bool) → Bool
@@ -48,18 +48,13 @@ count (suc n) f = cond (f n) (suc (count n f)) (count n f)
 unfoldable pub needs : (ℕ → Bool) → ℕ → Bool
 needs written block = any 8 (λ i. written (block * 8 + i))
 
--- The answer to an accepted call; held says which lines Figure 3's cache holds. "Only an accepted READ names the cache as
+-- The answer to an accepted act; held says which lines Figure 3's cache holds. "Only an accepted READ names the cache as
 -- origin instead, just where demand 2's cache .. holds its line" (demand 3). "LINE's companion gives 0, COUNTS the groups and
--- the pages needed, CHECK yes."
-unfoldable pub accepted : Seen → (ℕ → Bool) → Call → Answer
-accepted v held (RESET s) = outcome 0
-accepted v held (WRITE w a x) = outcome 0
+-- the pages needed".
+unfoldable pub accepted : Seen → (ℕ → Bool) → Act → Answer
 accepted v held (READ w a) =
-    reading 0 (valueAt w (offsetOf a) (v .latest (lineOf a))) (cond (held (lineOf a)) from-cache (v .origin (lineOf a)))
-accepted v held (LINE l) = lending (v .latest l)
-accepted v held (LINE-REFUSAL l) = outcome 0
-accepted v held MARK = outcome 0
-accepted v held (ROLLBACK k) = outcome 0
-accepted v held (ADVANCE k) = outcome 0
-accepted v held COUNTS = counting 0 (v .live) (v .pages)
-accepted v held CHECK = verdict 0 true
+    reading 0 (valueAt w (offsetOf a) (v .latest (lineOf a))) (cond (held (lineOf a)) from-cache (from (v .origin (lineOf a))))
+accepted v held (LOOK (LINE l)) = lending (v .latest l)
+accepted v held (LOOK (LINE-REFUSAL l)) = outcome 0
+accepted v held (LOOK COUNTS) = counting 0 (v .live) (v .pages)
+accepted v held (CHANGE c) = outcome 0

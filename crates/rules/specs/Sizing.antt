@@ -1,5 +1,5 @@
 -- The answer of the sizing call, which "stands outside" demand 3's list.
-use Prim.Native.Nat.{ℕ}
+use Prim.Native.Nat.{ℕ, _+_, _*_, _≤_}
 use mathlib.Core.Bool.{cond}
 use Rattle.rules.specs.Settings.{Settings, within, bytes}
 use Rattle.rules.specs.declared.Need.{Need}
@@ -28,3 +28,11 @@ noSizes = record { refusal = 4; archive = 0; pool = 0; groups = 0; table = 0; ow
 -- 4: "L, F or P is outside its limits (RESET, sizing)."
 unfoldable pub sizing : Settings → Need
 sizing s = cond (within s) (sizesOf s) noSizes
+
+-- The bytes of a state, which the caller keeps and lends with each call.
+abbrev pub stateBytes : ℕ
+stateBytes = 780
+
+-- "All other lent memory, in bytes, is at most L × F + 16 × P + 4,096 in total": all but archive and pool, a state's bytes included.
+abbrev pub Bounded : Settings → Need → Type 0
+Bounded s n = n .groups + n .table + n .owners + n .history + stateBytes ≤ s .lines * s .frames + 16 * s .pages + 4096

@@ -11,15 +11,14 @@ use Rattle.rules.specs.Sizing.{settingsOf}
 use Rattle.rules.specs.Call.{Answer, numberIn}
 use Rattle.rules.specs.Call.Call.{RESET}
 use Rattle.rules.specs.Call.Answer.{outcome}
-use Rattle.rules.specs.Refusal.{refusal, askedRefusal}
+use Rattle.rules.specs.Refusal.{askedRefusal}
 use Rattle.rules.specs.Plain.{Model, freshModel}
-use Rattle.rules.specs.Promise.{factsOf}
 use Rattle.records.specs.declared.Record.{Record}
 use Rattle.records.specs.declared.Record.the-variants.{Reset, Read, Write, Mark, Back, Advance, Counts}
 use Rattle.records.specs.declared.Parsed.{Parsed}
 use Rattle.records.specs.declared.Parsed.the-variants.{Asks}
 use Rattle.store.specs.Shown.{Kept, lengthsKept, Promises, AnswersAs}
-use Rattle.store.proofs.Demand3.{store-starts, store-answers-next, store-goes-on}
+use Rattle.store.proofs.Demand3.{store-answered, store-starts, store-answers-next, store-goes-on}
 use Rattle.replies.specs.Calls.{callOf}
 use Rattle.session.specs.Transcript.{Store, resetTo, unstartedRefusal, unstartedStore, answerTo, storeAfter}
 use Rattle.session.specs.Running.{isOther, early, startedAfter, Stored, Asked}
@@ -101,8 +100,7 @@ asked-early started r s b e = record { lengths = refl; answer = answer; after = 
 -- The first reset.
 module _ (s t : Kept) (asked : Settings) (a : Answer) (h : Promises (RESET asked) s a t) where
   first-number : a ≡ outcome (askedRefusal (lengthsKept s) asked)
-  unfolding refusal factsOf
-  first-number = h .number
+  first-number = store-answered s t asked a h
 
   first-stored : (n : ℕ) → askedRefusal (lengthsKept s) asked ≡ n → Stored (startedAfter false n) t (cond (eqb n 0) (some (freshModel asked)) none)
   first-stored zero e =

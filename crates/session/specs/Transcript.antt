@@ -14,8 +14,8 @@ use Rattle.rules.specs.Settings.{Settings, Pieces, elements}
 use Rattle.rules.specs.Sizing.{settingsOf}
 use Rattle.rules.specs.Call.{Call, Answer, numberIn}
 use Rattle.rules.specs.Call.Answer.{outcome}
-use Rattle.rules.specs.Refusal.{refusal, askedRefusal}
-use Rattle.rules.specs.Plain.{Model, plainFacts, modelAnswer, modelStep, freshModel}
+use Rattle.rules.specs.Refusal.{askedRefusal}
+use Rattle.rules.specs.Plain.{Model, plainRefusal, modelAnswer, modelStep, freshModel}
 use Rattle.tally.specs.Counts.{most}
 use Rattle.replies.specs.Calls.{callOf}
 use Rattle.replies.specs.Answers.{answerLine, endLine}
@@ -63,7 +63,7 @@ module _ (lengths : Pieces) where
   unstartedStore (some asked) = cond (eqb (askedRefusal lengths asked) 0) (some (freshModel asked)) none
 
   abbrev pub modelRefusal : Model → Call → ℕ
-  modelRefusal m c = refusal (plainFacts lengths (m .plain) c) c
+  modelRefusal m c = plainRefusal lengths (m .plain) c
 
   -- The answer to a record,
   unfoldable pub answerTo : Store → Record → Answer

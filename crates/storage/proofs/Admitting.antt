@@ -10,12 +10,12 @@ use lib.ListN.{length}
 use Rattle.rules.specs.Settings.{Settings, Pieces, within, elements, enough, bytes}
 use Rattle.rules.specs.declared.Need.{Need}
 use Rattle.rules.specs.Sizing.{sizing, sizesOf, noSizes}
-use Rattle.rules.specs.Refusal.{unless, liveFrames, stateFits, askedRefusal}
+use Rattle.rules.specs.Registers.{Registers, liveFrames, stateFits}
+use Rattle.rules.specs.Refusal.{unless, askedRefusal}
 use Rattle.rules.proofs.Tests.{both-true}
 use Rattle.rules.proofs.Settings.{Good, within-good}
 use Rattle.rules.proofs.Chain.{passed}
-use Rattle.rules.proofs.Circle.{live-some, live-at-most}
-use Rattle.rules.proofs.Promise.{Fits, fits-facts}
+use Rattle.rules.proofs.Registers.{Fits, fits-facts, live-some, live-at-most}
 use Rattle.frames.specs.Circle.{Turn}
 use Rattle.written.specs.Bits.{writtenOf, Lent}
 use Rattle.pages.specs.Table.{AsksTable}
@@ -112,74 +112,74 @@ module _ (s : Settings) (p : Pieces) (need : Need) (told : need ≡ sizing s) wh
     asked-short t = sym (asked-inside ∙ ap (λ (x : Bool). unless x 6 0) t)
 
 -- 5 and 6.
-module _ (s : Settings) (cmf omf : ℕ) (p : Pieces) where
-  pub outside-cmf : s .frames ≤ cmf → 5 ≡ admitted s cmf omf p 0
+module _ (s : Registers) (p : Pieces) where
+  pub outside-cmf : s .settings .frames ≤ s .cmf → 5 ≡ admitted s p 0
   unfolding admitted stateFits unless
   outside-cmf h =
-      sym (ap (λ (x : Bool). unless x 5 (unless (enough s p) 6 0)) (ap (λ (x : Bool). within s && (x && ltb omf (s .frames))) (le-ltb cmf (s .frames) h) ∙ and-false (within s)))
+      sym (ap (λ (x : Bool). unless x 5 (unless (enough (s .settings) p) 6 0)) (ap (λ (x : Bool). within (s .settings) && (x && ltb (s .omf) (s .settings .frames))) (le-ltb (s .cmf) (s .settings .frames) h) ∙ and-false (within (s .settings))))
 
-  pub outside-omf : s .frames ≤ omf → 5 ≡ admitted s cmf omf p 0
+  pub outside-omf : s .settings .frames ≤ s .omf → 5 ≡ admitted s p 0
   unfolding admitted stateFits unless
   outside-omf h =
-      sym (ap (λ (x : Bool). unless x 5 (unless (enough s p) 6 0))
-      (ap (λ (x : Bool). within s && (ltb cmf (s .frames) && x)) (le-ltb omf (s .frames) h) ∙ (ap (λ (x : Bool). within s && x) (and-false (ltb cmf (s .frames))) ∙ and-false (within s))))
+      sym (ap (λ (x : Bool). unless x 5 (unless (enough (s .settings) p) 6 0))
+      (ap (λ (x : Bool). within (s .settings) && (ltb (s .cmf) (s .settings .frames) && x)) (le-ltb (s .omf) (s .settings .frames) h) ∙ (ap (λ (x : Bool). within (s .settings) && x) (and-false (ltb (s .cmf) (s .settings .frames))) ∙ and-false (within (s .settings)))))
 
-  module _ (cmf-below : cmf < s .frames) (omf-below : omf < s .frames) where
-    fits-within : stateFits s cmf omf ≡ within s
+  module _ (cmf-below : s .cmf < s .settings .frames) (omf-below : s .omf < s .settings .frames) where
+    fits-within : stateFits s ≡ within (s .settings)
     unfolding stateFits
     fits-within =
-        ap₂ (λ (x y : Bool). within s && (x && y)) (lt-ltb cmf (s .frames) cmf-below) (lt-ltb omf (s .frames) omf-below) ∙ and-true (within s)
+        ap₂ (λ (x y : Bool). within (s .settings) && (x && y)) (lt-ltb (s .cmf) (s .settings .frames) cmf-below) (lt-ltb (s .omf) (s .settings .frames) omf-below) ∙ and-true (within (s .settings))
 
-    module _ (r : ℕ) (asked : r ≡ askedRefusal p s) where
-      pub outside-limits : r ≡ 4 → 5 ≡ admitted s cmf omf p 0
+    module _ (r : ℕ) (asked : r ≡ askedRefusal p (s .settings)) where
+      pub outside-limits : r ≡ 4 → 5 ≡ admitted s p 0
       unfolding askedRefusal admitted unless
-      outside-limits e = go (within s) (enough s p) refl (sym e ∙ asked)
+      outside-limits e = go (within (s .settings)) (enough (s .settings) p) refl (sym e ∙ asked)
         where
-          go : (w l : Bool) → within s ≡ w → 4 ≡ unless w 4 (unless l 6 0) → 5 ≡ admitted s cmf omf p 0
+          go : (w l : Bool) → within (s .settings) ≡ w → 4 ≡ unless w 4 (unless l 6 0) → 5 ≡ admitted s p 0
           go true true d h = absurd (omega arith)
           go true false d h = absurd (omega arith)
-          go false l d h = sym (ap (λ (x : Bool). unless x 5 (unless (enough s p) 6 0)) (fits-within ∙ d))
+          go false l d h = sym (ap (λ (x : Bool). unless x 5 (unless (enough (s .settings) p) 6 0)) (fits-within ∙ d))
 
-      pub admitted-else : (r ≡ 4 → ⊥) → r ≡ admitted s cmf omf p 0
+      pub admitted-else : (r ≡ 4 → ⊥) → r ≡ admitted s p 0
       unfolding askedRefusal admitted unless
-      admitted-else e = go (within s) refl asked
+      admitted-else e = go (within (s .settings)) refl asked
         where
-          go : (w : Bool) → within s ≡ w → r ≡ unless w 4 (unless (enough s p) 6 0) → r ≡ admitted s cmf omf p 0
-          go true d h = h ∙ sym (ap (λ (x : Bool). unless x 5 (unless (enough s p) 6 0)) (fits-within ∙ d))
+          go : (w : Bool) → within (s .settings) ≡ w → r ≡ unless w 4 (unless (enough (s .settings) p) 6 0) → r ≡ admitted s p 0
+          go true d h = h ∙ sym (ap (λ (x : Bool). unless x 5 (unless (enough (s .settings) p) 6 0)) (fits-within ∙ d))
           go false d h = absurd (e h)
 
 -- What an admitted state and lent memory have.
-pub record Room (s : Settings) (cmf omf : ℕ) (lengths : Pieces) : Type 0 where
-  pub fits : Fits s cmf omf
-  pub good : Good s
-  pub long : Long (elements s) lengths
+pub record Room (s : Registers) (lengths : Pieces) : Type 0 where
+  pub fits : Fits s
+  pub good : Good (s .settings)
+  pub long : Long (elements (s .settings)) lengths
 
-pub admitted-room : (s : Settings) (cmf omf : ℕ) (p : Pieces) (a rest : ℕ) → a ≡ admitted s cmf omf p rest → a ≡ 0 → Room s cmf omf p
+pub admitted-room : (s : Registers) (p : Pieces) (a rest : ℕ) → a ≡ admitted s p rest → a ≡ 0 → Room s p
 unfolding admitted covers enough
-admitted-room s cmf omf p a rest e z =
-    let t = passed (stateFits s cmf omf) 5 (unless (enough s p) 6 rest) (omega arith) (sym e ∙ z) in
-    let f = fits-facts s cmf omf (t .0) in
-    record { fits = f; good = within-good s (f .limits); long = covers-long (elements s) p (passed (enough s p) 6 rest (omega arith) (t .1) .0) }
+admitted-room s p a rest e z =
+    let t = passed (stateFits s) 5 (unless (enough (s .settings) p) 6 rest) (omega arith) (sym e ∙ z) in
+    let f = fits-facts s (t .0) in
+    record { fits = f; good = within-good (s .settings) (f .limits); long = covers-long (elements (s .settings)) p (passed (enough (s .settings) p) 6 rest (omega arith) (t .1) .0) }
 
 -- What the layers ask, of an admitted state and lent memory.
-module _ (s : Settings) (cmf omf : ℕ) (p : Pieces) (r : Room s cmf omf p) where
-  pub room-turn : Turn (s .frames) omf cmf
+module _ (s : Registers) (p : Pieces) (r : Room s p) where
+  pub room-turn : Turn (s .settings .frames) (s .omf) (s .cmf)
   room-turn = record { omf-below = r .fits .omf-below; below = r .fits .cmf-below; few = omega (arith, r .good .frames-to) }
 
-  pub room-archive : 16 * s .lines ≤ p .archive
+  pub room-archive : 16 * s .settings .lines ≤ p .archive
   unfolding elements
   room-archive = r .long .archive
 
-  pub room-pool : 128 * s .pages ≤ p .pool
+  pub room-pool : 128 * s .settings .pages ≤ p .pool
   unfolding elements
   room-pool = r .long .pool
 
-  pub room-circle : Turn (s .frames) omf omf
+  pub room-circle : Turn (s .settings .frames) (s .omf) (s .omf)
   room-circle = record { omf-below = r .fits .omf-below; below = r .fits .omf-below; few = omega (arith, r .good .frames-to) }
 
-module _ (s : Settings) (cmf omf archive pool table owners : ℕ) (groups history : List ℕ)
-    (r : Room s cmf omf (record { archive = archive; pool = pool; groups = length groups; table = table; owners = owners; history = length history })) where
-  pub room-lent : Lent (writtenOf (s .lines) (s .frames) omf groups history)
+module _ (s : Registers) (archive pool table owners : ℕ) (groups history : List ℕ)
+    (r : Room s (record { archive = archive; pool = pool; groups = length groups; table = table; owners = owners; history = length history })) where
+  pub room-lent : Lent (writtenOf (s .settings .lines) (s .settings .frames) (s .omf) groups history)
   unfolding elements
   room-lent =
       record {
@@ -192,41 +192,41 @@ module _ (s : Settings) (cmf omf archive pool table owners : ℕ) (groups histor
         history-long = r .long .history;
       }
 
-module _ (s : Settings) (cmf omf archive pool owners : ℕ) (groups table history : List ℕ)
-    (r : Room s cmf omf (record { archive = archive; pool = pool; groups = length groups; table = length table; owners = owners; history = length history })) where
-  pub room-table : AsksTable (writtenOf (s .lines) (s .frames) omf groups history) table
+module _ (s : Registers) (archive pool owners : ℕ) (groups table history : List ℕ)
+    (r : Room s (record { archive = archive; pool = pool; groups = length groups; table = length table; owners = owners; history = length history })) where
+  pub room-table : AsksTable (writtenOf (s .settings .lines) (s .settings .frames) (s .omf) groups history) table
   unfolding elements
   room-table =
-      record { lent = room-lent s cmf omf archive pool (length table) owners groups history r; lines-by = r .good .lines-by; lines-from = r .good .lines-from; table-long = r .long .table }
+      record { lent = room-lent s archive pool (length table) owners groups history r; lines-by = r .good .lines-by; lines-from = r .good .lines-from; table-long = r .long .table }
 
-  pub room-pages : AsksTable (writtenOf (s .lines) (s .frames) omf groups history) table × (s .pages ≤ owners)
+  pub room-pages : AsksTable (writtenOf (s .settings .lines) (s .settings .frames) (s .omf) groups history) table × (s .settings .pages ≤ owners)
   unfolding elements
   room-pages = (room-table, r .long .owners)
 
-module _ (s : Settings) (cmf omf owners : ℕ) (archive pool groups table history : List ℕ)
-    (r : Room s cmf omf (record { archive = length archive; pool = length pool; groups = length groups; table = length table; owners = owners; history = length history })) where
-  pub room-newest : (live line : ℕ) → live ≡ liveFrames (s .frames) cmf omf → line < s .lines
-      → AsksNewest (writtenOf (s .lines) (s .frames) omf groups history) (s .pages) live line archive pool table
+module _ (s : Registers) (owners : ℕ) (archive pool groups table history : List ℕ)
+    (r : Room s (record { archive = length archive; pool = length pool; groups = length groups; table = length table; owners = owners; history = length history })) where
+  pub room-newest : (live line : ℕ) → live ≡ liveFrames s → line < s .settings .lines
+      → AsksNewest (writtenOf (s .settings .lines) (s .settings .frames) (s .omf) groups history) (s .settings .pages) live line archive pool table
   unfolding elements
   room-newest live line e b =
       record {
-        asks = room-table s cmf omf (length archive) (length pool) owners groups table history r;
+        asks = room-table s (length archive) (length pool) owners groups table history r;
         frames-few = r .good .frames-to;
-        live-some = omega (arith, live-some (s .frames) cmf omf (r .fits .cmf-below) (r .fits .omf-below));
-        live-within = omega (arith, live-at-most (s .frames) cmf omf (r .fits .cmf-below) (r .fits .omf-below));
+        live-some = omega (arith, live-some s (r .fits));
+        live-within = omega (arith, live-at-most s (r .fits));
         line-below = b;
         pages-few = r .good .pages-to;
         archive-long = r .long .archive;
         pool-long = r .long .pool;
       }
 
-module _ (s : Settings) (cmf omf archive pool : ℕ) (groups table owners history : List ℕ)
-    (r : Room s cmf omf (record { archive = archive; pool = pool; groups = length groups; table = length table; owners = length owners; history = length history })) where
-  pub room-page : (line : ℕ) → line < s .lines → AsksPageFor (writtenOf (s .lines) (s .frames) omf groups history) (s .pages) cmf line table owners
+module _ (s : Registers) (archive pool : ℕ) (groups table owners history : List ℕ)
+    (r : Room s (record { archive = archive; pool = pool; groups = length groups; table = length table; owners = length owners; history = length history })) where
+  pub room-page : (line : ℕ) → line < s .settings .lines → AsksPageFor (writtenOf (s .settings .lines) (s .settings .frames) (s .omf) groups history) (s .settings .pages) (s .cmf) line table owners
   unfolding elements
   room-page line b =
       record {
-        asks = room-table s cmf omf archive pool (length owners) groups table history r;
+        asks = room-table s archive pool (length owners) groups table history r;
         line-below = b;
         frame-below = r .fits .cmf-below;
         owners-long = r .long .owners;

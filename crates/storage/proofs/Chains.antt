@@ -9,10 +9,11 @@ use borrow.Author.Tests.{ltb-true, not-true, not-false, eqb-true, eqb-false, lt-
 use lib.Dec.{ltb, leb, eqb}
 use Rattle.rules.specs.Settings.{Settings, Pieces, elements, enough}
 use Rattle.rules.specs.Line.{lineOf, offsetOf}
-use Rattle.rules.specs.Refusal.{unless, liveFrames, stateFits, isWidth, askedRefusal, lineRefusal, markedRefusal, placeRefusal, writeRefusal}
+use Rattle.rules.specs.Registers.{Registers, liveFrames, stateFits}
+use Rattle.rules.specs.Refusal.{unless, isWidth, askedRefusal, lineRefusal, markedRefusal, placeRefusal, writeRefusal}
 use Rattle.rules.proofs.Chain.{Placed, fails, passes, passed, place-passed, write-passed, marked-passed}
 use Rattle.rules.proofs.Width.{widths, in-line, line-below}
-use Rattle.rules.proofs.Circle.{live-some, live-at-most}
+use Rattle.rules.proofs.Registers.{live-some, live-at-most}
 use Rattle.frames.specs.declared.Found.{Found}
 use Rattle.written.specs.Bits.{writtenOf, newestFrom}
 use Rattle.pages.specs.Lines.{AsksBytes}
@@ -80,87 +81,87 @@ module _ (w : ℕ) where
         four false e = absurd (false≢true (width-none a b (eqb-false w 4 e) ∙ h))
 
 -- The lengths measured are the lent pieces'.
-pub measured : (s : Settings) (cmf omf a rest : ℕ) (p n : Pieces) → p ≡ n → a ≡ admitted s cmf omf p rest → a ≡ admitted s cmf omf n rest
-measured s cmf omf a rest p n e told = told ∙ ap (λ (m : Pieces). admitted s cmf omf m rest) e
+pub measured : (s : Registers) (a rest : ℕ) (p n : Pieces) → p ≡ n → a ≡ admitted s p rest → a ≡ admitted s n rest
+measured s a rest p n e told = told ∙ ap (λ (m : Pieces). admitted s m rest) e
 
 pub asked-measured : (s : Settings) (a : ℕ) (p n : Pieces) → p ≡ n → a ≡ askedRefusal p s → a ≡ askedRefusal n s
 asked-measured s a p n e told = told ∙ ap (λ (m : Pieces). askedRefusal m s) e
 
-module _ (s : Settings) (cmf omf : ℕ) (p : Pieces) where
-  admitted-links : Links (admitted s cmf omf p)
+module _ (s : Registers) (p : Pieces) where
+  admitted-links : Links (admitted s p)
   unfolding admitted
   admitted-links =
-      join (unless (stateFits s cmf omf) 5) (unless (enough s p) 6) (link (stateFits s cmf omf) 5 (λ e. omega arith)) (link (enough s p) 6 (λ e. omega arith))
+      join (unless (stateFits s) 5) (unless (enough (s .settings) p) 6) (link (stateFits s) 5 (λ e. omega arith)) (link (enough (s .settings) p) 6 (λ e. omega arith))
 
-  place-links : (w a : ℕ) → Links (placeRefusal s w a)
+  place-links : (w a : ℕ) → Links (placeRefusal (s .settings) w a)
   unfolding placeRefusal
   place-links w a =
-      join (unless (isWidth w) 7) (λ rest. unless (eqb (a % w) 0) 8 (unless (leb (a + w) (16 * s .lines)) 9 rest)) (link (isWidth w) 7 (λ e. omega arith))
-      (join (unless (eqb (a % w) 0) 8) (unless (leb (a + w) (16 * s .lines)) 9) (link (eqb (a % w) 0) 8 (λ e. omega arith)) (link (leb (a + w) (16 * s .lines)) 9 (λ e. omega arith)))
+      join (unless (isWidth w) 7) (λ rest. unless (eqb (a % w) 0) 8 (unless (leb (a + w) (16 * s .settings .lines)) 9 rest)) (link (isWidth w) 7 (λ e. omega arith))
+      (join (unless (eqb (a % w) 0) 8) (unless (leb (a + w) (16 * s .settings .lines)) 9) (link (eqb (a % w) 0) 8 (λ e. omega arith)) (link (leb (a + w) (16 * s .settings .lines)) 9 (λ e. omega arith)))
 
   -- WRITE's tests before 13: a refusal stands whatever comes after them, and once they pass 13 decides
-  write-links : (w addr v : ℕ) → Links (λ rest. admitted s cmf omf p (writeRefusal s w addr v rest))
+  write-links : (w addr v : ℕ) → Links (λ rest. admitted s p (writeRefusal (s .settings) w addr v rest))
   unfolding writeRefusal
   write-links w addr v =
-      join (admitted s cmf omf p) (λ rest. placeRefusal s w addr (unless (ltb v (256 ^ w)) 10 rest)) admitted-links
-      (join (placeRefusal s w addr) (unless (ltb v (256 ^ w)) 10) (place-links w addr) (link (ltb v (256 ^ w)) 10 (λ e. omega arith)))
+      join (admitted s p) (λ rest. placeRefusal (s .settings) w addr (unless (ltb v (256 ^ w)) 10 rest)) admitted-links
+      (join (placeRefusal (s .settings) w addr) (unless (ltb v (256 ^ w)) 10) (place-links w addr) (link (ltb v (256 ^ w)) 10 (λ e. omega arith)))
 
-  pub write-stands : (w addr v a : ℕ) → a ≡ admitted s cmf omf p (writeRefusal s w addr v 0) → a ≢ 0 → (rest : ℕ) → a ≡ admitted s cmf omf p (writeRefusal s w addr v rest)
-  write-stands w addr v a told z rest = turned (λ r. admitted s cmf omf p (writeRefusal s w addr v r)) (write-links w addr v) a rest told z
+  pub write-stands : (w addr v a : ℕ) → a ≡ admitted s p (writeRefusal (s .settings) w addr v 0) → a ≢ 0 → (rest : ℕ) → a ≡ admitted s p (writeRefusal (s .settings) w addr v rest)
+  write-stands w addr v a told z rest = turned (λ r. admitted s p (writeRefusal (s .settings) w addr v r)) (write-links w addr v) a rest told z
 
-  pub write-decides : (w addr v a : ℕ) → a ≡ admitted s cmf omf p (writeRefusal s w addr v 0) → a ≡ 0 → (rest : ℕ) → rest ≡ admitted s cmf omf p (writeRefusal s w addr v rest)
-  write-decides w addr v a told z rest = passes-on (λ r. admitted s cmf omf p (writeRefusal s w addr v r)) (write-links w addr v) a told z rest rest refl
+  pub write-decides : (w addr v a : ℕ) → a ≡ admitted s p (writeRefusal (s .settings) w addr v 0) → a ≡ 0 → (rest : ℕ) → rest ≡ admitted s p (writeRefusal (s .settings) w addr v rest)
+  write-decides w addr v a told z rest = passes-on (λ r. admitted s p (writeRefusal (s .settings) w addr v r)) (write-links w addr v) a told z rest rest refl
 
   -- no refusal: the rest refuses nothing either
-  pub admitted-rest : (a rest : ℕ) → a ≡ admitted s cmf omf p rest → a ≡ 0 → rest ≡ 0
+  pub admitted-rest : (a rest : ℕ) → a ≡ admitted s p rest → a ≡ 0 → rest ≡ 0
   unfolding admitted
   admitted-rest a rest e z =
-      passed (enough s p) 6 rest (omega arith) (passed (stateFits s cmf omf) 5 (unless (enough s p) 6 rest) (omega arith) (sym e ∙ z) .1) .1
+      passed (enough (s .settings) p) 6 rest (omega arith) (passed (stateFits s) 5 (unless (enough (s .settings) p) 6 rest) (omega arith) (sym e ∙ z) .1) .1
 
-  module _ (a : ℕ) (told : a ≡ admitted s cmf omf p 0) where
-    pub admitted-turned : (rest : ℕ) → a ≢ 0 → a ≡ admitted s cmf omf p rest
-    admitted-turned rest z = turned (admitted s cmf omf p) admitted-links a rest told z
+  module _ (a : ℕ) (told : a ≡ admitted s p 0) where
+    pub admitted-turned : (rest : ℕ) → a ≢ 0 → a ≡ admitted s p rest
+    admitted-turned rest z = turned (admitted s p) admitted-links a rest told z
 
     module _ (z : a ≡ 0) where
-      on : (r rest : ℕ) → r ≡ rest → r ≡ admitted s cmf omf p rest
-      on = passes-on (admitted s cmf omf p) admitted-links a told z
+      on : (r rest : ℕ) → r ≡ rest → r ≡ admitted s p rest
+      on = passes-on (admitted s p) admitted-links a told z
 
-      pub lines-in : 16 * s .lines < 4294967296
+      pub lines-in : 16 * s .settings .lines < 4294967296
       lines-in =
-          let r = admitted-room s cmf omf p a 0 told z in
+          let r = admitted-room s p a 0 told z in
           omega (arith, r .good .lines-to)
 
       -- LINE
-      pub line-passes : (l : ℕ) → l < s .lines → 0 ≡ admitted s cmf omf p (lineRefusal s l)
+      pub line-passes : (l : ℕ) → l < s .settings .lines → 0 ≡ admitted s p (lineRefusal (s .settings) l)
       unfolding lineRefusal unless
-      line-passes l h = on 0 (lineRefusal s l) (sym (ap (λ (b : Bool). unless b 9 0) (lt-ltb l (s .lines) h)))
+      line-passes l h = on 0 (lineRefusal (s .settings) l) (sym (ap (λ (b : Bool). unless b 9 0) (lt-ltb l (s .settings .lines) h)))
 
-      pub line-past : (l : ℕ) → s .lines ≤ l → 9 ≡ admitted s cmf omf p (lineRefusal s l)
+      pub line-past : (l : ℕ) → s .settings .lines ≤ l → 9 ≡ admitted s p (lineRefusal (s .settings) l)
       unfolding lineRefusal unless
-      line-past l h = on 9 (lineRefusal s l) (sym (ap (λ (b : Bool). unless b 9 0) (le-ltb l (s .lines) h)))
+      line-past l h = on 9 (lineRefusal (s .settings) l) (sym (ap (λ (b : Bool). unless b 9 0) (le-ltb l (s .settings .lines) h)))
 
       -- MARK
-      pub mark-passes : (live r : ℕ) → r ≡ live → r < s .frames → 0 ≡ admitted s cmf omf p (unless (ltb live (s .frames)) 12 0)
+      pub mark-passes : (live r : ℕ) → r ≡ live → r < s .settings .frames → 0 ≡ admitted s p (unless (ltb live (s .settings .frames)) 12 0)
       unfolding unless
-      mark-passes live r e h = on 0 (unless (ltb live (s .frames)) 12 0) (sym (ap (λ (b : Bool). unless b 12 0) (lt-ltb live (s .frames) (omega arith))))
+      mark-passes live r e h = on 0 (unless (ltb live (s .settings .frames)) 12 0) (sym (ap (λ (b : Bool). unless b 12 0) (lt-ltb live (s .settings .frames) (omega arith))))
 
-      pub mark-past : (live r : ℕ) → r ≡ live → s .frames ≤ r → 12 ≡ admitted s cmf omf p (unless (ltb live (s .frames)) 12 0)
+      pub mark-past : (live r : ℕ) → r ≡ live → s .settings .frames ≤ r → 12 ≡ admitted s p (unless (ltb live (s .settings .frames)) 12 0)
       unfolding unless
-      mark-past live r e h = on 12 (unless (ltb live (s .frames)) 12 0) (sym (ap (λ (b : Bool). unless b 12 0) (le-ltb live (s .frames) (omega arith))))
+      mark-past live r e h = on 12 (unless (ltb live (s .settings .frames)) 12 0) (sym (ap (λ (b : Bool). unless b 12 0) (le-ltb live (s .settings .frames) (omega arith))))
 
       -- ROLLBACK and ADVANCE
-      pub frames-none : (live k : ℕ) → k ≡ 0 → 11 ≡ admitted s cmf omf p (markedRefusal live k)
+      pub frames-none : (live k : ℕ) → k ≡ 0 → 11 ≡ admitted s p (markedRefusal live k)
       unfolding markedRefusal unless
       frames-none live k h =
           on 11 (markedRefusal live k) (sym (ap (λ (b : Bool). unless (b && leb k (live - 1)) 11 0) (le-ltb 0 k (omega arith))))
 
-      pub frames-passes : (live k r : ℕ) → r ≡ live → k ≢ 0 → k < r → 0 ≡ admitted s cmf omf p (markedRefusal live k)
+      pub frames-passes : (live k r : ℕ) → r ≡ live → k ≢ 0 → k < r → 0 ≡ admitted s p (markedRefusal live k)
       unfolding markedRefusal unless
       frames-passes live k r e d h =
           on 0 (markedRefusal live k)
           (sym (ap (λ (b : Bool). unless (b && leb k (live - 1)) 11 0) (lt-ltb 0 k (omega arith)) ∙ ap (λ (b : Bool). unless b 11 0) (le-leb k (live - 1) (omega arith))))
 
-      pub frames-past : (live k r : ℕ) → r ≡ live → r ≤ k → k ≢ 0 → 11 ≡ admitted s cmf omf p (markedRefusal live k)
+      pub frames-past : (live k r : ℕ) → r ≡ live → r ≤ k → k ≢ 0 → 11 ≡ admitted s p (markedRefusal live k)
       unfolding markedRefusal unless
       frames-past live k r e h d =
           on 11 (markedRefusal live k)
@@ -168,9 +169,9 @@ module _ (s : Settings) (cmf omf : ℕ) (p : Pieces) where
 
       -- READ
       module _ (w addr : ℕ) (b : Bool) (width : b ≡ isWidth w) where
-        pub place-width : not b ≡ true → 7 ≡ admitted s cmf omf p (placeRefusal s w addr 0)
+        pub place-width : not b ≡ true → 7 ≡ admitted s p (placeRefusal (s .settings) w addr 0)
         unfolding placeRefusal
-        place-width h = on 7 (placeRefusal s w addr 0) (sym (fails (isWidth w) 7 _ (sym width ∙ not-true b h)))
+        place-width h = on 7 (placeRefusal (s .settings) w addr 0) (sym (fails (isWidth w) 7 _ (sym width ∙ not-true b h)))
 
         module _ (known : not b ≡ false) where
           of-width : isWidth w ≡ true
@@ -179,127 +180,127 @@ module _ (s : Settings) (cmf omf : ℕ) (p : Pieces) where
           pub width-some : 0 < w
           width-some = width-few w of-width .0
 
-          pub place-aligned : addr % w ≢ 0 → 8 ≡ admitted s cmf omf p (placeRefusal s w addr 0)
+          pub place-aligned : addr % w ≢ 0 → 8 ≡ admitted s p (placeRefusal (s .settings) w addr 0)
           unfolding placeRefusal
-          place-aligned h = on 8 (placeRefusal s w addr 0) (sym (passes (isWidth w) 7 _ 8 of-width (fails (eqb (addr % w) 0) 8 _ (ne-eqb (addr % w) 0 h))))
+          place-aligned h = on 8 (placeRefusal (s .settings) w addr 0) (sym (passes (isWidth w) 7 _ 8 of-width (fails (eqb (addr % w) 0) 8 _ (ne-eqb (addr % w) 0 h))))
 
-          pub width-in : w ≤ 16 * s .lines
+          pub width-in : w ≤ 16 * s .settings .lines
           width-in =
-              let r = admitted-room s cmf omf p a 0 told z in
+              let r = admitted-room s p a 0 told z in
               omega (arith, r .good .lines-from, width-few w of-width .1)
 
           module _ (aligned : addr % w ≡ 0) where
-            pub place-past : 16 * s .lines - w < addr → 9 ≡ admitted s cmf omf p (placeRefusal s w addr 0)
+            pub place-past : 16 * s .settings .lines - w < addr → 9 ≡ admitted s p (placeRefusal (s .settings) w addr 0)
             unfolding placeRefusal
             place-past h =
-                on 9 (placeRefusal s w addr 0)
-                (sym (passes (isWidth w) 7 _ 9 of-width (passes (eqb (addr % w) 0) 8 _ 9 (eq-eqb (addr % w) 0 aligned) (fails (leb (addr + w) (16 * s .lines)) 9 0 (lt-leb (addr + w) (16 * s .lines) (omega arith))))))
+                on 9 (placeRefusal (s .settings) w addr 0)
+                (sym (passes (isWidth w) 7 _ 9 of-width (passes (eqb (addr % w) 0) 8 _ 9 (eq-eqb (addr % w) 0 aligned) (fails (leb (addr + w) (16 * s .settings .lines)) 9 0 (lt-leb (addr + w) (16 * s .settings .lines) (omega arith))))))
 
-            pub place-passes : addr ≤ 16 * s .lines - w → 0 ≡ admitted s cmf omf p (placeRefusal s w addr 0)
+            pub place-passes : addr ≤ 16 * s .settings .lines - w → 0 ≡ admitted s p (placeRefusal (s .settings) w addr 0)
             unfolding placeRefusal
             place-passes h =
-                on 0 (placeRefusal s w addr 0)
-                (sym (passes (isWidth w) 7 _ 0 of-width (passes (eqb (addr % w) 0) 8 _ 0 (eq-eqb (addr % w) 0 aligned) (passes (leb (addr + w) (16 * s .lines)) 9 0 0 (le-leb (addr + w) (16 * s .lines) (omega (arith, width-in))) refl))))
+                on 0 (placeRefusal (s .settings) w addr 0)
+                (sym (passes (isWidth w) 7 _ 0 of-width (passes (eqb (addr % w) 0) 8 _ 0 (eq-eqb (addr % w) 0 aligned) (passes (leb (addr + w) (16 * s .settings .lines)) 9 0 0 (le-leb (addr + w) (16 * s .settings .lines) (omega (arith, width-in))) refl))))
 
   -- WRITE
-  module _ (w addr v a : ℕ) (told : a ≡ admitted s cmf omf p (placeRefusal s w addr 0)) where
-    both-links : Links (λ rest. admitted s cmf omf p (placeRefusal s w addr rest))
-    both-links = join (admitted s cmf omf p) (placeRefusal s w addr) admitted-links (place-links w addr)
+  module _ (w addr v a : ℕ) (told : a ≡ admitted s p (placeRefusal (s .settings) w addr 0)) where
+    both-links : Links (λ rest. admitted s p (placeRefusal (s .settings) w addr rest))
+    both-links = join (admitted s p) (placeRefusal (s .settings) w addr) admitted-links (place-links w addr)
 
-    pub write-turned : a ≢ 0 → a ≡ admitted s cmf omf p (writeRefusal s w addr v 0)
+    pub write-turned : a ≢ 0 → a ≡ admitted s p (writeRefusal (s .settings) w addr v 0)
     unfolding writeRefusal
-    write-turned z = turned (λ rest. admitted s cmf omf p (placeRefusal s w addr rest)) both-links a (unless (ltb v (256 ^ w)) 10 0) told z
+    write-turned z = turned (λ rest. admitted s p (placeRefusal (s .settings) w addr rest)) both-links a (unless (ltb v (256 ^ w)) 10 0) told z
 
     pub write-width : a ≡ 0 → isWidth w ≡ true
-    write-width z = place-passed s w addr 0 (admitted-rest a _ told z) .0 .width
+    write-width z = place-passed (s .settings) w addr 0 (admitted-rest a _ told z) .0 .width
 
     module _ (z : a ≡ 0) (b : Bool) (fits : b ≡ ltb v (256 ^ w)) where
-      pub write-passes : b ≡ true → 0 ≡ admitted s cmf omf p (writeRefusal s w addr v 0)
+      pub write-passes : b ≡ true → 0 ≡ admitted s p (writeRefusal (s .settings) w addr v 0)
       unfolding writeRefusal unless
       write-passes h =
-          passes-on (λ rest. admitted s cmf omf p (placeRefusal s w addr rest)) both-links a told z 0 (unless (ltb v (256 ^ w)) 10 0)
+          passes-on (λ rest. admitted s p (placeRefusal (s .settings) w addr rest)) both-links a told z 0 (unless (ltb v (256 ^ w)) 10 0)
           (sym (ap (λ (t : Bool). unless t 10 0) (sym fits ∙ h)))
 
-      pub write-wide : b ≡ false → 10 ≡ admitted s cmf omf p (writeRefusal s w addr v 0)
+      pub write-wide : b ≡ false → 10 ≡ admitted s p (writeRefusal (s .settings) w addr v 0)
       unfolding writeRefusal unless
       write-wide h =
-          passes-on (λ rest. admitted s cmf omf p (placeRefusal s w addr rest)) both-links a told z 10 (unless (ltb v (256 ^ w)) 10 0)
+          passes-on (λ rest. admitted s p (placeRefusal (s .settings) w addr rest)) both-links a told z 10 (unless (ltb v (256 ^ w)) 10 0)
           (sym (ap (λ (t : Bool). unless t 10 0) (sym fits ∙ h)))
 
 -- What ROLLBACK and ADVANCE have once they are admitted.
-pub record FramesRoom (s : Settings) (cmf omf : ℕ) (p : Pieces) (k : ℕ) : Type 0 where
-  pub room : Room s cmf omf p
+pub record FramesRoom (s : Registers) (p : Pieces) (k : ℕ) : Type 0 where
+  pub room : Room s p
   pub k-some : 0 < k
-  pub k-low : k ≤ liveFrames (s .frames) cmf omf - 1
-  pub live-some : 0 < liveFrames (s .frames) cmf omf
-  pub live-most : liveFrames (s .frames) cmf omf ≤ s .frames
+  pub k-low : k ≤ liveFrames s - 1
+  pub live-some : 0 < liveFrames s
+  pub live-most : liveFrames s ≤ s .settings .frames
 
-pub frames-room : (s : Settings) (cmf omf : ℕ) (p : Pieces) (a k : ℕ) → a ≡ admitted s cmf omf p (markedRefusal (liveFrames (s .frames) cmf omf) k) → a ≡ 0
-    → FramesRoom s cmf omf p k
-frames-room s cmf omf p a k told z =
-    let r = admitted-room s cmf omf p a _ told z in
-    let m = marked-passed (liveFrames (s .frames) cmf omf) k (admitted-rest s cmf omf p a _ told z) in
+pub frames-room : (s : Registers) (p : Pieces) (a k : ℕ) → a ≡ admitted s p (markedRefusal (liveFrames s) k) → a ≡ 0
+    → FramesRoom s p k
+frames-room s p a k told z =
+    let r = admitted-room s p a _ told z in
+    let m = marked-passed (liveFrames s) k (admitted-rest s p a _ told z) in
     record {
       room = r;
       k-some = m .0;
       k-low = m .1;
-      live-some = live-some (s .frames) cmf omf (r .fits .cmf-below) (r .fits .omf-below);
-      live-most = live-at-most (s .frames) cmf omf (r .fits .cmf-below) (r .fits .omf-below);
+      live-some = live-some s (r .fits);
+      live-most = live-at-most s (r .fits);
     }
 
 -- What READ and WRITE have of the place once they are admitted: its bytes lie in one line.
 pub place-bytes : (s : Settings) (w a : ℕ) → Placed s w a → AsksBytes w (offsetOf a)
 place-bytes s w a p = record { width-few = width-few w (p .width) .1; inside = in-line (widths w (p .width)) a (p .aligned) }
 
-pub record PlaceRoom (s : Settings) (cmf omf : ℕ) (p : Pieces) (w a : ℕ) : Type 0 where
-  pub room : Room s cmf omf p
-  pub line-below : lineOf a < s .lines
+pub record PlaceRoom (s : Registers) (p : Pieces) (w a : ℕ) : Type 0 where
+  pub room : Room s p
+  pub line-below : lineOf a < s .settings .lines
   pub bytes : AsksBytes w (offsetOf a)
 
-pub write-room : (s : Settings) (cmf omf : ℕ) (p : Pieces) (r w a v : ℕ) → r ≡ admitted s cmf omf p (writeRefusal s w a v 0) → r ≡ 0
-    → PlaceRoom s cmf omf p w a × Placed s w a
-write-room s cmf omf p r w a v told z =
-    let d = write-passed s w a v 0 (admitted-rest s cmf omf p r _ told z) .0 in
-    (record { room = admitted-room s cmf omf p r _ told z; line-below = line-below d; bytes = place-bytes s w a d }, d)
+pub write-room : (s : Registers) (p : Pieces) (r w a v : ℕ) → r ≡ admitted s p (writeRefusal (s .settings) w a v 0) → r ≡ 0
+    → PlaceRoom s p w a × Placed (s .settings) w a
+write-room s p r w a v told z =
+    let d = write-passed (s .settings) w a v 0 (admitted-rest s p r _ told z) .0 in
+    (record { room = admitted-room s p r _ told z; line-below = line-below d; bytes = place-bytes (s .settings) w a d }, d)
 
-pub place-room : (s : Settings) (cmf omf : ℕ) (p : Pieces) (r w a : ℕ) → r ≡ admitted s cmf omf p (placeRefusal s w a 0) → r ≡ 0 → PlaceRoom s cmf omf p w a
-place-room s cmf omf p r w a told z =
-    let d = place-passed s w a 0 (admitted-rest s cmf omf p r _ told z) .0 in
-    record { room = admitted-room s cmf omf p r _ told z; line-below = line-below d; bytes = place-bytes s w a d }
+pub place-room : (s : Registers) (p : Pieces) (r w a : ℕ) → r ≡ admitted s p (placeRefusal (s .settings) w a 0) → r ≡ 0 → PlaceRoom s p w a
+place-room s p r w a told z =
+    let d = place-passed (s .settings) w a 0 (admitted-rest s p r _ told z) .0 in
+    record { room = admitted-room s p r _ told z; line-below = line-below d; bytes = place-bytes (s .settings) w a d }
 
 -- What LINE has once it is admitted.
-pub record LineRoom (s : Settings) (cmf omf : ℕ) (p : Pieces) (l : ℕ) : Type 0 where
-  pub room : Room s cmf omf p
-  pub line-below : l < s .lines
-  pub live-some : 0 < liveFrames (s .frames) cmf omf
-  pub live-most : liveFrames (s .frames) cmf omf ≤ s .frames
-  pub archive-long : 16 * s .lines ≤ p .archive
-  pub pool-long : 128 * s .pages ≤ p .pool
+pub record LineRoom (s : Registers) (p : Pieces) (l : ℕ) : Type 0 where
+  pub room : Room s p
+  pub line-below : l < s .settings .lines
+  pub live-some : 0 < liveFrames s
+  pub live-most : liveFrames s ≤ s .settings .frames
+  pub archive-long : 16 * s .settings .lines ≤ p .archive
+  pub pool-long : 128 * s .settings .pages ≤ p .pool
 
-pub line-room : (s : Settings) (cmf omf : ℕ) (p : Pieces) (r l : ℕ) → r ≡ admitted s cmf omf p (lineRefusal s l) → r ≡ 0 → LineRoom s cmf omf p l
+pub line-room : (s : Registers) (p : Pieces) (r l : ℕ) → r ≡ admitted s p (lineRefusal (s .settings) l) → r ≡ 0 → LineRoom s p l
 unfolding lineRefusal elements
-line-room s cmf omf p r l told z =
-    let d = admitted-room s cmf omf p r _ told z in
+line-room s p r l told z =
+    let d = admitted-room s p r _ told z in
     record {
       room = d;
-      line-below = ltb-true l (s .lines) (passed (ltb l (s .lines)) 9 0 (omega arith) (admitted-rest s cmf omf p r _ told z) .0);
-      live-some = live-some (s .frames) cmf omf (d .fits .cmf-below) (d .fits .omf-below);
-      live-most = live-at-most (s .frames) cmf omf (d .fits .cmf-below) (d .fits .omf-below);
+      line-below = ltb-true l (s .settings .lines) (passed (ltb l (s .settings .lines)) 9 0 (omega arith) (admitted-rest s p r _ told z) .0);
+      live-some = live-some s (d .fits);
+      live-most = live-at-most s (d .fits);
       archive-long = d .long .archive;
       pool-long = d .long .pool;
     }
 
-pub line-spot : (s : Settings) (cmf omf : ℕ) (p : Pieces) (l : ℕ) → LineRoom s cmf omf p l → (live : ℕ) → live ≡ liveFrames (s .frames) cmf omf
-    → (groups history : List ℕ) (found : Found) → found ≡ newestFrom (writtenOf (s .lines) (s .frames) omf groups history) l (live - 1)
-    → AsksSpot (s .lines) (s .frames) omf l found (p .table)
+pub line-spot : (s : Registers) (p : Pieces) (l : ℕ) → LineRoom s p l → (live : ℕ) → live ≡ liveFrames s
+    → (groups history : List ℕ) (found : Found) → found ≡ newestFrom (writtenOf (s .settings .lines) (s .settings .frames) (s .omf) groups history) l (live - 1)
+    → AsksSpot (s .settings .lines) (s .settings .frames) (s .omf) l found (p .table)
 unfolding elements
-line-spot s cmf omf p l g live e groups history found told =
+line-spot s p l g live e groups history found told =
     record {
       lines-by = g .room .good .lines-by;
       lines-few = g .room .good .lines-to;
       frames-few = omega (arith, g .room .good .frames-to);
       omf-below = g .room .fits .omf-below;
       line-below = g .line-below;
-      index-below = λ i d. omega (arith, g .live-some, g .live-most, newest-below (writtenOf (s .lines) (s .frames) omf groups history) l (live - 1) i (sym told ∙ d));
+      index-below = λ i d. omega (arith, g .live-some, g .live-most, newest-below (writtenOf (s .settings .lines) (s .settings .frames) (s .omf) groups history) l (live - 1) i (sym told ∙ d));
       table-long = g .room .long .table;
     }

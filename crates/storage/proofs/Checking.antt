@@ -15,12 +15,13 @@ use Rattle.rules.specs.Line.{Line, IsLine, zeros}
 use Rattle.rules.specs.Call.{refused}
 use Rattle.rules.specs.Call.Answer.{verdict}
 use Rattle.rules.specs.Call.Call.{CHECK}
-use Rattle.rules.specs.Refusal.{refusal, stateRefusal, noPage, liveFrames, stateFits}
+use Rattle.rules.specs.Registers.{Registers, liveFrames, stateFits}
+use Rattle.rules.specs.Refusal.{refusal, stateRefusal}
 use Rattle.rules.specs.Figure2.{initial}
 use Rattle.rules.specs.Figure3.{WellCache}
 use Rattle.rules.specs.Promise.{Promise, factsOf}
 use Rattle.rules.proofs.Chain.{passed}
-use Rattle.rules.proofs.Circle.{live-at-most}
+use Rattle.rules.proofs.Registers.{live-at-most}
 use Rattle.rules.proofs.WellSteps.{initial-well}
 use Rattle.frames.proofs.Lines.{is-line}
 use Rattle.written.specs.Bits.{writtenOf, effective}
@@ -35,7 +36,7 @@ use Rattle.versions.specs.Newest.{pageOf, newestOf}
 use Rattle.wellformed.specs.Decision.{Decides}
 use Rattle.wellformed.specs.Parts.{RecentIn, Bytes, AsksBits, AsksRecent}
 use Rattle.wellformed.proofs.Deciding.{passes}
-use Rattle.storage.specs.Storage.{Storage, settingsIn, liveIn, lengthsIn, writtenIn, indexBack, versionAt, frameIn, archiveIn, latestIn, newestFrame, WellStore, store}
+use Rattle.storage.specs.Storage.{Storage, settingsIn, registersIn, liveIn, lengthsIn, writtenIn, indexBack, versionAt, frameIn, archiveIn, latestIn, newestFrame, WellStore, store}
 use Rattle.storage.specs.Admit.{admitted}
 use Rattle.storage.proofs.Admitting.{Room, admitted-room, room-lent, room-newest}
 use Rattle.storage.proofs.Looking.{admittedIn, turned-down, let-through}
@@ -55,23 +56,23 @@ entry-below s c e q v = go (ℕ-discrete (e % 2) 0)
     go (no d) = q .second (e / 2) (lineOf c e) (in-way (2 * (e / 2) + 1) (omega arith)) .1
 
 -- What the tests ask, of an admitted state and lent memory.
-module _ (s : Settings) (cmf omf archive pool table owners live : ℕ) (groups history : List ℕ)
-    (r : Room s cmf omf (record { archive = archive; pool = pool; groups = length groups; table = table; owners = owners; history = length history }))
-    (counted : live ≡ liveFrames (s .frames) cmf omf) where
-  pub room-bits : AsksBits (writtenOf (s .lines) (s .frames) omf groups history) live
+module _ (s : Registers) (archive pool table owners live : ℕ) (groups history : List ℕ)
+    (r : Room s (record { archive = archive; pool = pool; groups = length groups; table = table; owners = owners; history = length history }))
+    (counted : live ≡ liveFrames s) where
+  pub room-bits : AsksBits (writtenOf (s .settings .lines) (s .settings .frames) (s .omf) groups history) live
   room-bits =
       record {
-        lent = room-lent s cmf omf archive pool table owners groups history r;
+        lent = room-lent s archive pool table owners groups history r;
         lines-by = r .good .lines-by;
-        live-within = omega (arith, counted, live-at-most (s .frames) cmf omf (r .fits .cmf-below) (r .fits .omf-below));
+        live-within = omega (arith, counted, live-at-most s (r .fits));
       }
 
-module _ (s : Settings) (cmf omf owners live : ℕ) (archive pool groups table history : List ℕ)
-    (r : Room s cmf omf (record { archive = length archive; pool = length pool; groups = length groups; table = length table; owners = owners; history = length history }))
-    (counted : live ≡ liveFrames (s .frames) cmf omf) where
-  pub room-recent : AsksRecent (writtenOf (s .lines) (s .frames) omf groups history) (s .pages) live archive pool table
+module _ (s : Registers) (owners live : ℕ) (archive pool groups table history : List ℕ)
+    (r : Room s (record { archive = length archive; pool = length pool; groups = length groups; table = length table; owners = owners; history = length history }))
+    (counted : live ≡ liveFrames s) where
+  pub room-recent : AsksRecent (writtenOf (s .settings .lines) (s .settings .frames) (s .omf) groups history) (s .settings .pages) live archive pool table
   room-recent =
-      let n = room-newest s cmf omf owners archive pool groups table history r live 0 counted (omega (arith, r .good .lines-from)) in
+      let n = room-newest s owners archive pool groups table history r live 0 counted (omega (arith, r .good .lines-from)) in
       record {
         asks = n .asks;
         frames-few = n .frames-few;
@@ -84,18 +85,18 @@ module _ (s : Settings) (cmf omf owners live : ℕ) (archive pool groups table h
 
 -- What an admitted state and lent memory have.
 module _ (x : Storage) (z : admittedIn x 0 ≡ 0) where
-  admitted-fits : stateFits (settingsIn (x .state)) (x .state .registers .cmf) (x .state .registers .omf) ≡ true
+  admitted-fits : stateFits (registersIn (x .state)) ≡ true
   unfolding admitted
-  admitted-fits = passed (stateFits (settingsIn (x .state)) (x .state .registers .cmf) (x .state .registers .omf)) 5 _ (omega arith) z .0
+  admitted-fits = passed (stateFits (registersIn (x .state))) 5 _ (omega arith) z .0
 
   admitted-long : enough (settingsIn (x .state)) (lengthsIn (x .memory)) ≡ true
   unfolding admitted
   admitted-long =
       passed (enough (settingsIn (x .state)) (lengthsIn (x .memory))) 6 0 (omega arith)
-      (passed (stateFits (settingsIn (x .state)) (x .state .registers .cmf) (x .state .registers .omf)) 5 _ (omega arith) z .1) .0
+      (passed (stateFits (registersIn (x .state))) 5 _ (omega arith) z .1) .0
 
-  room : Room (settingsIn (x .state)) (x .state .registers .cmf) (x .state .registers .omf) (lengthsIn (x .memory))
-  room = admitted-room _ _ _ _ _ 0 refl z
+  room : Room (registersIn (x .state)) (lengthsIn (x .memory))
+  room = admitted-room _ _ _ 0 refl z
 
   -- Lent bytes make lines.
   archive-lines : Bytes (16 * x .state .registers .lines) (x .memory .archive) → (l : ℕ) → IsLine (archiveIn x l)
@@ -190,10 +191,10 @@ module _ (x : Storage) (z : admittedIn x 0 ≡ 0) (live : ℕ) (counted : live �
 -- CHECK
 module _ (x : Storage) (a : ℕ) (told : a ≡ admittedIn x 0) where
   pub check-refused : a ≢ 0 → Promise store CHECK x (verdict a false) x
-  unfolding refusal stateRefusal factsOf admitted refused noPage
+  unfolding refusal stateRefusal factsOf admitted refused
   check-refused z = turned-down x CHECK a told z
 
   pub check-told : a ≡ 0 → (says : Bool) → Decides says (WellStore x) → Promise store CHECK x (verdict 0 says) x
-  unfolding refusal stateRefusal factsOf admitted noPage
+  unfolding refusal stateRefusal factsOf admitted refused
   check-told z says d =
-      let-through x CHECK a told z (says, refl) (record { kept = refl; says = says; answer = refl; only = d .only; always = d .always }) refl refl
+      let-through x CHECK a told z refl (record { kept = refl; says = says; answer = refl; only = d .only; always = d .always }) refl refl

@@ -12,9 +12,9 @@ use lib.ListN.{length, getD, set}
 use lib.Seq.{set-getD}
 use Rattle.rules.specs.Settings.{elements}
 use Rattle.rules.specs.Seen.{needs, count}
-use Rattle.rules.specs.Refusal.{liveFrames}
+use Rattle.rules.specs.Registers.{liveBetween}
 use Rattle.rules.specs.Figure2.{isWritten, figureSeen}
-use Rattle.rules.specs.Promise.{figureOf, seenOf}
+use Rattle.rules.specs.Promise.{seenOf}
 use Rattle.rules.proofs.Count.{any-same}
 use Rattle.frames.specs.Circle.{indexOf, frameAt}
 use Rattle.frames.specs.declared.Found.{Found}
@@ -75,7 +75,7 @@ module _ (x : Storage) (q : WellStore x) (l : ℕ) (b : l < x .state .registers 
 
   -- CMF is the newest live frame
   pub cmf-index : indexOf (x .state .registers .frames) (x .state .registers .omf) (x .state .registers .cmf) ≡ n - 1
-  unfolding indexOf liveFrames
+  unfolding indexOf liveBetween
   cmf-index = last ((x .state .registers .cmf + x .state .registers .frames - x .state .registers .omf) % x .state .registers .frames)
     where
       last : (m : ℕ) → m ≡ m + 1 - 1
@@ -95,7 +95,7 @@ module _ (x : Storage) (q : WellStore x) (l : ℕ) (b : l < x .state .registers 
 
   -- the block is needed in CMF just if its place is
   pub current-needed : seenOf store x .current (l / 8) ≡ neededAt w place
-  unfolding seenOf figureSeen figureOf needs
+  unfolding seenOf figureSeen needs
   current-needed =
       any-same 8 (λ i. isWritten (frameIn x 0 (l / 8 * 8 + i))) (λ i. effective w (n - 1) (l / 8 * 8 + i))
       (λ i c. sym (written-effective x 0 (l / 8 * 8 + i) (lim .live-some) (omega (arith, block, lim .good .lines-by))) ∙ ap (λ (k : ℕ). effective w k (l / 8 * 8 + i)) (none-off (n - 1)))

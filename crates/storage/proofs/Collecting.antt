@@ -11,20 +11,22 @@ use native.Mathlib.Omega.{arith}
 use borrow.Author.Tests.{lt-ltb, le-ltb}
 use lib.Dec.{ltb}
 use lib.ListN.{length, getD, drop}
-use Rattle.rules.specs.Settings.{Settings, Pieces, elements, enough}
+use Rattle.rules.specs.Settings.{Pieces, elements, enough}
 use Rattle.rules.specs.Line.{Line, zeros}
-use Rattle.rules.specs.Call.{Origin, refused}
-use Rattle.rules.specs.Call.Origin.{from-cache, from-frame, from-archive}
+use Rattle.rules.specs.Call.{Place, refused}
+use Rattle.rules.specs.Call.Place.{in-frame, in-archive}
 use Rattle.rules.specs.Call.Answer.{outcome}
-use Rattle.rules.specs.Call.Call.{ADVANCE}
+use Rattle.rules.specs.Call.Change.{ADVANCE}
+use Rattle.rules.specs.Call.Act.{CHANGE}
+use Rattle.rules.specs.Call.Call.{ON}
 use Rattle.rules.specs.Seen.{accepted, dropped}
-use Rattle.rules.specs.Refusal.{markedRefusal, stateRefusal, refusal, noPage}
-use Rattle.rules.specs.Figure2.{figureStep, cmfStep, omfStep, omrv, versionIn, foundIn, isWritten}
+use Rattle.rules.specs.Refusal.{markedRefusal, stateRefusal, refusal, actRefusal}
+use Rattle.rules.specs.Figure2.{figureStep, registersStep, omrv, versionIn, foundIn, isWritten}
 use Rattle.rules.specs.Figure3.{WellCache, cacheStep}
-use Rattle.rules.specs.Promise.{Promise, Followed, factsOf, target, WellFigure, figureOf}
-use Rattle.rules.proofs.Promise.{facts-fit}
+use Rattle.rules.specs.Promise.{Promise, Followed, factsOf, target, WellFigure}
+use Rattle.rules.specs.Registers as rules
+use Rattle.rules.proofs.Registers.{facts-fit, live-advance}
 use Rattle.rules.proofs.WellSteps.{advance-well}
-use Rattle.rules.proofs.Circle.{live-advance}
 use Rattle.frames.specs.Circle.{frameAt}
 use Rattle.frames.specs.Search.{greatest}
 use Rattle.frames.proofs.Search.{greatest-found}
@@ -42,7 +44,7 @@ use Rattle.cache.proofs.Frames.{collected-sized, collected-shown, collected-all
 use Rattle.versions.specs.Newest.{pageOf, spotOf, contentOf}
 use Rattle.versions.specs.Steps.{folded, AsksFold}
 use Rattle.storage.specs.declared.Registers.{Registers}
-use Rattle.storage.specs.Storage.{Storage, stateOf, storageOf, memoryOf, settingsIn, lengthsIn, pastIn, Recent, Coherent, liveIn, writtenIn, indexBack, frameIn, archiveIn, versionAt, latestIn, frameNumber, newestFrame, WellStore, store}
+use Rattle.storage.specs.Storage.{Storage, stateOf, storageOf, memoryOf, settingsIn, registersIn, lengthsIn, pastIn, Recent, Coherent, liveIn, writtenIn, indexBack, frameIn, archiveIn, versionAt, latestIn, frameNumber, newestFrame, WellStore, store}
 use Rattle.storage.specs.Steps.{advancedRegisters, advancedState, AdvancedTo}
 use Rattle.storage.specs.Admit.{admitted}
 use Rattle.storage.proofs.Limits.{Limits, limits, lent-long}
@@ -57,13 +59,13 @@ use Rattle.storage.proofs.Reading.{well-findable, version-content}
 use Rattle.storage.proofs.Rows.{Within, found-within, version-same, split-version, first, first-found}
 
 -- What a fold asks, of a state, lent memory and k that are admitted.
-pub fold-asks : (s : Settings) (cmf omf owners k : ℕ) (archive pool groups table history : List ℕ)
-    → FramesRoom s cmf omf (record { archive = length archive; pool = length pool; groups = length groups; table = length table; owners = owners; history = length history }) k
-    → AsksFold (writtenOf (s .lines) (s .frames) omf groups history) (s .pages) k archive pool table
+pub fold-asks : (s : rules.Registers) (owners k : ℕ) (archive pool groups table history : List ℕ)
+    → FramesRoom s (record { archive = length archive; pool = length pool; groups = length groups; table = length table; owners = owners; history = length history }) k
+    → AsksFold (writtenOf (s .settings .lines) (s .settings .frames) (s .omf) groups history) (s .settings .pages) k archive pool table
 unfolding elements
-fold-asks s cmf omf owners k archive pool groups table history g =
+fold-asks s owners k archive pool groups table history g =
     record {
-      asks = room-table s cmf omf (length archive) (length pool) owners groups table history (g .room);
+      asks = room-table s (length archive) (length pool) owners groups table history (g .room);
       k-some = g .k-some;
       k-below = omega (arith, g .k-low, g .live-some, g .live-most);
       pages-few = g .room .good .pages-to;
@@ -124,7 +126,7 @@ module _ (x : Storage) (q : WellStore x) (k : ℕ) (some-k : 0 < k) (low : k ≤
 
   live : liveIn (new .state) ≡ kept
   unfolding advancedState
-  live = live-advance (x .state .registers .frames) (x .state .registers .cmf) (x .state .registers .omf) (lim .fits .cmf-below) (lim .fits .omf-below) k low
+  live = live-advance (registersIn (x .state)) (lim .fits) k low
 
   long : Long (elements (settingsIn (x .state))) (lengthsIn (x .memory))
   long = lent-long x (q .long)
@@ -189,25 +191,24 @@ module _ (x : Storage) (q : WellStore x) (k : ℕ) (some-k : 0 < k) (low : k ≤
         ∙ (sym (version-back k row (λ i. versionAt x i l) (archiveIn x l))
         ∙ sym (version-same k (λ j. frameIn x (kept + j) l) (λ j. cond (row (k - 1 - j)) (some (versionAt x (k - 1 - j) l)) none) (archiveIn x l) oldest)))))
 
-  next-well : WellFigure (settingsIn (x .state)) (figureStep (ADVANCE k) (figureOf store x))
-  unfolding figureOf
-  next-well = advance-well (settingsIn (x .state)) (figureOf store x) (well-figure x q) k low
+  next-well : WellFigure (settingsIn (x .state)) (figureStep (CHANGE (ADVANCE k)) (store .registers x) (store .figure x))
+  next-well = advance-well (settingsIn (x .state)) (store .registers x) (store .figure x) (well-figure x q) k low
 
-  collected-archive : (l : ℕ) → archiveIn new l ≡ omrv (figureOf store x) k l
-  unfolding omrv figureOf figureStep advancedState
+  collected-archive : (l : ℕ) → archiveIn new l ≡ omrv (store .figure x) k l
+  unfolding omrv figureStep advancedState
   collected-archive l = go (decLt l (x .state .registers .lines))
     where
       go : Dec (l < x .state .registers .lines) → archiveIn new l ≡ versionIn k (λ j. frameIn x (kept + j) l) (archiveIn x l)
       go (yes b) = archive-folded l b
       go (no b) = archive-past new l (omega arith) ∙ sym (next-well .archive-lines l (omega arith))
 
-  collected-figure : figureOf store new ≡ figureStep (ADVANCE k) (figureOf store x)
-  unfolding figureOf figureStep
+  collected-figure : store .figure new ≡ figureStep (CHANGE (ADVANCE k)) (store .registers x) (store .figure x)
+  unfolding figureStep
   collected-figure = λ i. record { live = live i; frame = λ j l. collected-frame j l i; archive = λ l. collected-archive l i }
 
   -- ---- cache: every line is found as before, and in the archive where its frame is collected
   collected-latest : (l : ℕ) → latestIn new l ≡ latestIn x l
-  unfolding latestIn omrv figureOf
+  unfolding latestIn omrv
   collected-latest l =
       ap₂ (λ (m : ℕ) (v : Line). versionIn m (λ j. frameIn new j l) v) live (collected-archive l)
       ∙ split-version kept k n (λ j. frameIn x j l) (λ j. frameIn new j l) (archiveIn x l) all (λ j h. stays j l h)
@@ -216,22 +217,21 @@ module _ (x : Storage) (q : WellStore x) (k : ℕ) (some-k : 0 < k) (low : k ≤
   unfolding frameAfter
   archive-stays = ap (λ (t : Bool). cond t archiveFrame archiveFrame) (below-archive (x .state .registers .frames) (x .state .registers .omf) (lim .good .frames-to) (lim .fits .omf-below) k)
 
-  frame-collected : (o : Origin) → Within n o → frameAfter (x .state .registers .omf) (x .state .registers .frames) k (frameNumber (x .state) o) ≡ frameNumber (new .state) (first kept o)
+  frame-collected : (o : Place) → Within n o → frameAfter (x .state .registers .omf) (x .state .registers .frames) k (frameNumber (x .state) o) ≡ frameNumber (new .state) (first kept o)
   unfolding frameAfter frameNumber dropped advancedState
-  frame-collected from-cache h = archive-stays
-  frame-collected (from-frame j) h =
+  frame-collected (in-frame j) h =
       ap (λ (t : Bool). cond t archiveFrame (frameAt (x .state .registers .frames) (x .state .registers .omf) (n - 1 - j)))
       (below-frame (x .state .registers .frames) (x .state .registers .omf) (lim .good .frames-to) (lim .fits .omf-below) k (n - 1 - j) (omega (arith, lim .live-most)))
       ∙ go (decLt j kept)
     where
-      go : Dec (j < kept) → cond (ltb (n - 1 - j) k) archiveFrame (frameAt (x .state .registers .frames) (x .state .registers .omf) (n - 1 - j)) ≡ frameNumber (new .state) (cond (ltb j kept) (from-frame j) from-archive)
+      go : Dec (j < kept) → cond (ltb (n - 1 - j) k) archiveFrame (frameAt (x .state .registers .frames) (x .state .registers .omf) (n - 1 - j)) ≡ frameNumber (new .state) (cond (ltb j kept) (in-frame j) in-archive)
       go (yes b) =
           ap (λ (t : Bool). cond t archiveFrame (frameAt (x .state .registers .frames) (x .state .registers .omf) (n - 1 - j))) (le-ltb (n - 1 - j) k (omega arith))
-          ∙ (sym (frame-on j b) ∙ sym (ap (λ (t : Bool). frameNumber (new .state) (cond t (from-frame j) from-archive)) (lt-ltb j kept b)))
+          ∙ (sym (frame-on j b) ∙ sym (ap (λ (t : Bool). frameNumber (new .state) (cond t (in-frame j) in-archive)) (lt-ltb j kept b)))
       go (no b) =
           ap (λ (t : Bool). cond t archiveFrame (frameAt (x .state .registers .frames) (x .state .registers .omf) (n - 1 - j))) (lt-ltb (n - 1 - j) k (omega arith))
-          ∙ sym (ap (λ (t : Bool). frameNumber (new .state) (cond t (from-frame j) from-archive)) (le-ltb j kept (omega arith)))
-  frame-collected from-archive h = archive-stays
+          ∙ sym (ap (λ (t : Bool). frameNumber (new .state) (cond t (in-frame j) in-archive)) (le-ltb j kept (omega arith)))
+  frame-collected in-archive h = archive-stays
 
   collected-newest : (l : ℕ) → frameAfter (x .state .registers .omf) (x .state .registers .frames) k (newestFrame x l) ≡ newestFrame new l
   unfolding newestFrame
@@ -254,7 +254,7 @@ module _ (x : Storage) (q : WellStore x) (k : ℕ) (some-k : 0 < k) (low : k ≤
   unfolding advancedState frameAt
   collected-store =
       record {
-        fits = facts-fit (settingsIn (x .state)) (x .state .registers .cmf) _ (record { limits = lim .fits .limits; cmf-below = lim .fits .cmf-below; omf-below = mod-lt _ (omega (arith, below)) });
+        fits = facts-fit _ (record { limits = lim .fits .limits; cmf-below = lim .fits .cmf-below; omf-below = mod-lt _ (omega (arith, below)) });
         long = subst (λ (p : Pieces). enough (settingsIn (x .state)) p ≡ true) (sym (lengths-kept x k long)) (q .long);
         bits = subst (λ (m : ℕ). WellBits (writtenIn new) (x .state .registers .tag) m) (sym live) (advanced-well (writtenIn x) (q .bits .lent) k below (x .state .registers .tag) n (q .bits));
         pages = advanced-confirmed (writtenIn x) (q .bits .lent) k below (x .state .registers .pages) (λ y. getD (x .memory .table) y 0) (λ p. getD (x .memory .owners) p 0) (q .pages);
@@ -265,37 +265,34 @@ module _ (x : Storage) (q : WellStore x) (k : ℕ) (some-k : 0 < k) (low : k ≤
         coherent = collected-coherent;
       }
 
-  pub advanced-followed : Followed store (ADVANCE k) x (outcome 0) new
-  unfolding accepted cmfStep omfStep cacheStep advancedState
+  pub advanced-followed : Followed store (CHANGE (ADVANCE k)) x (outcome 0) new
+  unfolding accepted cacheStep advancedState
   advanced-followed =
       record {
         answer = refl;
         well = collected-store;
-        settings = refl;
-        cmf = refl;
-        omf = refl;
         figure = collected-figure;
         cache = collected-cache;
       }
 
 -- The promise: refused, and accepted.
 module _ (x : Storage) (k a : ℕ) (told : a ≡ admittedIn x (markedRefusal (liveIn (x .state)) k)) where
-  pub advance-refused : a ≢ 0 → Promise store (ADVANCE k) x (outcome a) x
-  unfolding refusal stateRefusal factsOf admitted refused noPage
-  advance-refused z = turned-down x (ADVANCE k) a told z
+  pub advance-refused : a ≢ 0 → Promise store (ON (CHANGE (ADVANCE k))) x (outcome a) x
+  unfolding refusal actRefusal stateRefusal factsOf admitted refused
+  advance-refused z = turned-down x (ON (CHANGE (ADVANCE k))) a told z
 
-  promised : a ≡ 0 → Promise store (ADVANCE k) x (outcome 0) (collected-to x k)
-  unfolding refusal stateRefusal factsOf admitted noPage target
+  promised : a ≡ 0 → Promise store (ON (CHANGE (ADVANCE k))) x (outcome 0) (collected-to x k)
+  unfolding refusal actRefusal stateRefusal factsOf admitted refused registersStep target advancedState
   promised z =
-      let g = frames-room (settingsIn (x .state)) (x .state .registers .cmf) (x .state .registers .omf) (lengthsIn (x .memory)) a k told z in
-      let-through x (ADVANCE k) a told z refl (λ q. advanced-followed x q k (g .k-some) (g .k-low)) (lengths-kept x k (g .room .long)) (past-kept x k (g .room .long))
+      let g = frames-room (registersIn (x .state)) (lengthsIn (x .memory)) a k told z in
+      let-through x (ON (CHANGE (ADVANCE k))) a told z refl (record { registers = refl; followed = λ q. advanced-followed x q k (g .k-some) (g .k-low) }) (lengths-kept x k (g .room .long)) (past-kept x k (g .room .long))
 
   -- in the form in which the code has the lists, the registers and the cache's frames
   pub advance-collects : a ≡ 0 → (archive groups history : List ℕ) → archive ≡ collected-to x k .memory .archive
       → groups ≡ collected-to x k .memory .groups → history ≡ collected-to x k .memory .history
       → (t : Registers) (origins : List ℕ) → t ≡ advancedRegisters (x .state .registers) k
       → origins ≡ framesAfter (x .state .registers .omf) (x .state .registers .frames) k (x .state .cache .frames)
-      → Promise store (ADVANCE k) x (outcome 0)
+      → Promise store (ON (CHANGE (ADVANCE k))) x (outcome 0)
       (storageOf (stateOf t (withOrigins (x .state .cache) origins)) archive (x .memory .pool) groups (x .memory .table) (x .memory .owners) history)
       × AdvancedTo (x .state) (x .memory .archive) (x .memory .pool) (x .memory .groups) (x .memory .table) (x .memory .history) k
       (stateOf t (withOrigins (x .state .cache) origins)) archive groups history
@@ -304,7 +301,7 @@ module _ (x : Storage) (k a : ℕ) (told : a ≡ admittedIn x (markedRefusal (li
       let same : stateOf t (withOrigins (x .state .cache) origins) ≡ advancedState (x .state) k =
       λ i. stateOf (e i) (withOrigins (x .state .cache) (frames i))
       in (
-        subst (Promise store (ADVANCE k) x (outcome 0))
+        subst (Promise store (ON (CHANGE (ADVANCE k))) x (outcome 0))
             (λ i. storageOf (sym same i) (sym ea i) (x .memory .pool) (sym eg i) (x .memory .table) (x .memory .owners) (sym eh i)) (promised z),
         record { state = same; archive-is = ea; groups-is = eg; history-is = eh },
       )

@@ -10,12 +10,13 @@ use lib.ListN.{getD}
 use Rattle.rules.specs.Line.{Line}
 use Rattle.rules.specs.Call.{refused}
 use Rattle.rules.specs.Call.Answer.{counting}
-use Rattle.rules.specs.Call.Call.{COUNTS}
+use Rattle.rules.specs.Call.Look.{COUNTS}
+use Rattle.rules.specs.Call.Act.{LOOK}
+use Rattle.rules.specs.Call.Call.{ON}
 use Rattle.rules.specs.Seen.{accepted, count, needs}
-use Rattle.rules.specs.Refusal.{refusal, stateRefusal, noPage}
-use Rattle.rules.specs.Figure2.{pagesOf, isWritten, figureSeen, figureStep, cmfStep, omfStep}
-use Rattle.rules.specs.Figure3.{cacheStep}
-use Rattle.rules.specs.Promise.{Promise, Followed, factsOf, figureOf, seenOf}
+use Rattle.rules.specs.Refusal.{refusal, stateRefusal, actRefusal}
+use Rattle.rules.specs.Figure2.{pagesOf, isWritten, figureSeen}
+use Rattle.rules.specs.Promise.{Promise, factsOf, seenOf}
 use Rattle.rules.proofs.Count.{any-same, count-same}
 use Rattle.written.specs.Bits.{effective}
 use Rattle.pages.specs.Table.{placesOf, neededAt, heldAt}
@@ -49,31 +50,20 @@ written-effective x j l b c =
 
 pub pages-counted : (x : Storage) → WellStore x
     → count (x .state .registers .pages) (heldAt (writtenIn x) (x .memory .table) (x .memory .owners)) ≡ seenOf store x .pages
-unfolding heldAt seenOf figureSeen figureOf
+unfolding heldAt seenOf figureSeen
 pages-counted x q =
     held-count (neededAt (writtenIn x)) (x .state .registers .pages) (λ y. getD (x .memory .table) y 0) (λ p. getD (x .memory .owners) p 0) (placesOf (writtenIn x)) (q .pages)
     ∙ (needed-pages (writtenIn x) (x .state .registers .tag) (liveIn (x .state)) (q .bits) (limits x (q .fits) .live-most)
     ∙ pages-alike (x .state .registers .lines) (liveIn (x .state)) _ _ (written-effective x))
 
 module _ (x : Storage) (a : ℕ) (told : a ≡ admittedIn x 0) where
-  pub counts-refused : a ≢ 0 → Promise store COUNTS x (counting a 0 0) x
-  unfolding refusal stateRefusal factsOf admitted refused noPage
-  counts-refused z = turned-down x COUNTS a told z
+  pub counts-refused : a ≢ 0 → Promise store (ON (LOOK COUNTS)) x (counting a 0 0) x
+  unfolding refusal actRefusal stateRefusal factsOf admitted refused
+  counts-refused z = turned-down x (ON (LOOK COUNTS)) a told z
 
   pub counts-told : a ≡ 0 → (live pages : ℕ) → live ≡ liveIn (x .state) → pages ≡ count (x .state .registers .pages) (heldAt (writtenIn x) (x .memory .table) (x .memory .owners))
-      → Promise store COUNTS x (counting 0 live pages) x
-  unfolding refusal stateRefusal factsOf admitted noPage accepted figureStep cmfStep omfStep cacheStep seenOf figureSeen figureOf
+      → Promise store (ON (LOOK COUNTS)) x (counting 0 live pages) x
+  unfolding refusal actRefusal stateRefusal factsOf admitted refused accepted seenOf figureSeen
   counts-told z live pages el ep =
-      let-through x COUNTS a told z (_, _, refl) (record { kept = refl; followed = followed }) refl refl
-    where
-      followed : WellStore x → Followed store COUNTS x (counting 0 live pages) x
-      followed q =
-          record {
-            answer = ap₂ (λ (m n : ℕ). counting 0 m n) el (ep ∙ pages-counted x q);
-            well = q;
-            settings = refl;
-            cmf = refl;
-            omf = refl;
-            figure = refl;
-            cache = refl;
-          }
+      let-through x (ON (LOOK COUNTS)) a told z refl
+      (record { kept = refl; answer = λ q. ap₂ (λ (m n : ℕ). counting 0 m n) el (ep ∙ pages-counted x q) }) refl refl

@@ -10,7 +10,7 @@ use lib.Dec.{ltb}
 use Rattle.rules.specs.Settings.{Settings}
 use Rattle.rules.specs.Line.{Line, IsLine, zeros}
 use Rattle.rules.specs.Figure2.{Figure}
-use Rattle.rules.specs.Promise.{WellFigure, Lawful, figureOf, seenOf}
+use Rattle.rules.specs.Promise.{WellFigure, Lawful, seenOf}
 use Rattle.written.specs.Bits.{effective}
 use Rattle.pages.specs.Lines.{archiveLine}
 use Rattle.pages.specs.Table.{heldAt}
@@ -74,8 +74,8 @@ pub archive-past : (x : Storage) (l : ℕ) → x .state .registers .lines ≤ l 
 unfolding archiveIn
 archive-past x l h = ap (λ (t : Bool). cond t (archiveLine (x .memory .archive) l) zeros) (le-ltb l (x .state .registers .lines) h)
 
-pub well-figure : (x : Storage) → WellStore x → WellFigure (settingsIn (x .state)) (figureOf store x)
-unfolding figureOf seenOf
+pub well-figure : (x : Storage) → WellStore x → WellFigure (settingsIn (x .state)) (store .figure x)
+unfolding seenOf
 well-figure x q =
     let f = limits x (q .fits) in
     record {
@@ -91,14 +91,12 @@ well-figure x q =
 
 -- The store's well-formedness is what document 01 asks of it.
 pub lawful : Lawful store
-lawful = record { fits = λ x q. q .fits; figure = well-figure; cache = λ x q. q .entries }
+lawful = record { fits = λ x q. q .fits; live = λ x q. refl; figure = well-figure; cache = λ x q. q .entries }
 
 -- Storage whose figure is well-formed has lines for versions.
-module _ (t : Storage) (s : Settings) (f : Figure) (shows : figureOf store t ≡ f) (q : WellFigure s f) where
+module _ (t : Storage) (s : Settings) (f : Figure) (shows : store .figure t ≡ f) (q : WellFigure s f) where
   pub step-versions : (j l : ℕ) (v : Line) → frameIn t j l ≡ some v → IsLine v
-  unfolding figureOf
   step-versions j l v e = q .line j l v (sym (ap (λ (g : Figure). g .frame j l) shows) ∙ e)
 
   pub step-archive : (l : ℕ) → IsLine (archiveIn t l)
-  unfolding figureOf
   step-archive l = subst IsLine (sym (ap (λ (g : Figure). g .archive l) shows)) (q .archive-line l)

@@ -3,28 +3,27 @@ use mathlib.Core.Path.{_≡_}
 use mathlib.Core.Bool.{true}
 use Prim.Native.Nat.{_≤_, _<_}
 use Rattle.rules.specs.Settings.{elements, enough}
-use Rattle.rules.specs.Refusal.{stateFits}
+use Rattle.rules.specs.Registers.{stateFits}
 use Rattle.rules.proofs.Settings.{Good, within-good}
-use Rattle.rules.proofs.Promise.{Fits, fits-facts}
-use Rattle.rules.proofs.Circle.{live-some, live-at-most}
-use Rattle.storage.specs.Storage.{Storage, settingsIn, lengthsIn, liveIn}
+use Rattle.rules.proofs.Registers.{Fits, fits-facts, live-some, live-at-most}
+use Rattle.storage.specs.Storage.{Storage, settingsIn, registersIn, lengthsIn, liveIn}
 use Rattle.storage.specs.Admit.{covers}
 use Rattle.storage.proofs.Admitting.{Long, covers-long}
 
 pub record Limits (x : Storage) : Type 0 where
-  pub fits : Fits (settingsIn (x .state)) (x .state .registers .cmf) (x .state .registers .omf)
+  pub fits : Fits (registersIn (x .state))
   pub good : Good (settingsIn (x .state))
   pub live-some : 0 < liveIn (x .state)
   pub live-most : liveIn (x .state) ≤ x .state .registers .frames
 
-pub limits : (x : Storage) → stateFits (settingsIn (x .state)) (x .state .registers .cmf) (x .state .registers .omf) ≡ true → Limits x
+pub limits : (x : Storage) → stateFits (registersIn (x .state)) ≡ true → Limits x
 limits x e =
-    let f = fits-facts (settingsIn (x .state)) (x .state .registers .cmf) (x .state .registers .omf) e in
+    let f = fits-facts (registersIn (x .state)) e in
     record {
       fits = f;
       good = within-good (settingsIn (x .state)) (f .limits);
-      live-some = live-some (x .state .registers .frames) (x .state .registers .cmf) (x .state .registers .omf) (f .cmf-below) (f .omf-below);
-      live-most = live-at-most (x .state .registers .frames) (x .state .registers .cmf) (x .state .registers .omf) (f .cmf-below) (f .omf-below);
+      live-some = live-some (registersIn (x .state)) f;
+      live-most = live-at-most (registersIn (x .state)) f;
     }
 
 pub lent-long : (x : Storage) → enough (settingsIn (x .state)) (lengthsIn (x .memory)) ≡ true → Long (elements (settingsIn (x .state))) (lengthsIn (x .memory))

@@ -4,44 +4,41 @@ use mathlib.Core.Logic.{_≢_}
 use Prim.Native.Nat.{ℕ}
 use native.Mathlib.Decide.{ℕ-discrete}
 use Rattle.rules.specs.Settings.{elements}
-use Rattle.rules.specs.Call.{Call, Answer, Names, refused}
+use Rattle.rules.specs.Call.{Call, Answer, refused}
 use Rattle.rules.specs.Call.Answer.{outcome}
-use Rattle.rules.specs.Call.Call.{LINE-REFUSAL}
+use Rattle.rules.specs.Call.Look.{LINE-REFUSAL}
+use Rattle.rules.specs.Call.Act.{LOOK}
+use Rattle.rules.specs.Call.Call.{ON}
 use Rattle.rules.specs.Seen.{accepted}
-use Rattle.rules.specs.Refusal.{refusal, noPage, stateRefusal, lineRefusal}
-use Rattle.rules.specs.Figure2.{figureStep, cmfStep, omfStep}
-use Rattle.rules.specs.Figure3.{cacheStep}
-use Rattle.rules.specs.Promise.{Promise, Followed, Accepted, target, factsOf, seenOf}
+use Rattle.rules.specs.Refusal.{refusal, actRefusal, lacks, stateRefusal, lineRefusal}
+use Rattle.rules.specs.Promise.{formOf, Promise, Accepted, target, factsOf, seenOf}
 use Rattle.rules.proofs.Promise.{refuse, accept}
-use Rattle.storage.specs.Storage.{Storage, settingsIn, lengthsIn, store}
+use Rattle.storage.specs.Storage.{Storage, settingsIn, registersIn, lengthsIn, store}
 use Rattle.storage.specs.Admit.{admitted}
 
 -- The refusal of a call, by the storage alone.
 abbrev pub refusalOf : Storage → Call → ℕ
-refusalOf x c = refusal (factsOf store x (noPage (settingsIn (x .state)) (seenOf store x) c)) c
+refusalOf x c = refusal (factsOf store x) (lacks (settingsIn (x .state)) (seenOf store x)) c
 
 -- 5 and 6 before the rest of a chain, as the code has them.
 abbrev pub admittedIn : Storage → (rest : ℕ) → ℕ
-admittedIn x rest = admitted (settingsIn (x .state)) (x .state .registers .cmf) (x .state .registers .omf) (lengthsIn (x .memory)) rest
+admittedIn x rest = admitted (registersIn (x .state)) (lengthsIn (x .memory)) rest
 
 module _ (x : Storage) (c : Call) (r : ℕ) (told : r ≡ refusalOf x c) where
   pub turned-down : r ≢ 0 → Promise store c x (refused r c) x
   turned-down z = subst (λ (n : ℕ). Promise store c x (refused n c) x) (sym told) (refuse store c x _ (λ q. refl) (λ d. z (told ∙ d)))
 
-  pub let-through : r ≡ 0 → {a : Answer} {t : Storage} → Names 0 c a → Accepted store c x a t → store .lengths t ≡ store .lengths x
+  pub let-through : r ≡ 0 → {a : Answer} {t : Storage} → formOf a ≡ formOf (refused 0 c) → Accepted store c x a t → store .lengths t ≡ store .lengths x
       → store .past (elements (target store c x)) t ≡ store .past (elements (target store c x)) x → Promise store c x a t
-  let-through z names step long past = accept store c x _ (λ q. refl) (sym told ∙ z) names step long past
+  let-through z form step long past = accept store c x _ (λ q. refl) (sym told ∙ z) form step long past
 
 -- LINE's companion
-pub companion : (x : Storage) (l r : ℕ) → r ≡ admittedIn x (lineRefusal (settingsIn (x .state)) l) → Promise store (LINE-REFUSAL l) x (outcome r) x
-unfolding refusal stateRefusal factsOf admitted refused noPage accepted figureStep cmfStep omfStep cacheStep
+pub companion : (x : Storage) (l r : ℕ) → r ≡ admittedIn x (lineRefusal (settingsIn (x .state)) l) → Promise store (ON (LOOK (LINE-REFUSAL l))) x (outcome r) x
+unfolding refusal actRefusal stateRefusal factsOf admitted refused accepted
 companion x l r told = go (ℕ-discrete r 0)
   where
-    followed : store .Well x → Followed store (LINE-REFUSAL l) x (outcome 0) x
-    followed q = record { answer = refl; well = q; settings = refl; cmf = refl; omf = refl; figure = refl; cache = refl }
-
-    go : Dec (r ≡ 0) → Promise store (LINE-REFUSAL l) x (outcome r) x
+    go : Dec (r ≡ 0) → Promise store (ON (LOOK (LINE-REFUSAL l))) x (outcome r) x
     go (yes z) =
-        subst (λ (n : ℕ). Promise store (LINE-REFUSAL l) x (outcome n) x) (sym z)
-        (let-through x (LINE-REFUSAL l) r told z refl (record { kept = refl; followed = followed }) refl refl)
-    go (no z) = turned-down x (LINE-REFUSAL l) r told z
+        subst (λ (n : ℕ). Promise store (ON (LOOK (LINE-REFUSAL l))) x (outcome n) x) (sym z)
+        (let-through x (ON (LOOK (LINE-REFUSAL l))) r told z refl (record { kept = refl; answer = λ q. refl }) refl refl)
+    go (no z) = turned-down x (ON (LOOK (LINE-REFUSAL l))) r told z

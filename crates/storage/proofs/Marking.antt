@@ -11,19 +11,20 @@ use native.Mathlib.Omega.{arith}
 use borrow.Author.Tests.{ltb-true, lt-ltb, le-ltb}
 use lib.Dec.{ltb}
 use Rattle.rules.specs.Line.{Line}
-use Rattle.rules.specs.Call.{Origin, refused}
-use Rattle.rules.specs.Call.Origin.{from-cache, from-frame, from-archive}
+use Rattle.rules.specs.Call.{Place, refused}
+use Rattle.rules.specs.Call.Place.{in-frame, in-archive}
 use Rattle.rules.specs.Call.Answer.{outcome}
-use Rattle.rules.specs.Call.Call.{MARK}
+use Rattle.rules.specs.Call.Change.{MARK}
+use Rattle.rules.specs.Call.Act.{CHANGE}
+use Rattle.rules.specs.Call.Call.{ON}
 use Rattle.rules.specs.Seen.{accepted, further}
-use Rattle.rules.specs.Refusal.{unless, refusal, stateRefusal, noPage}
-use Rattle.rules.specs.Figure2.{marked, figureStep, cmfStep, omfStep, versionIn, foundIn, isWritten}
+use Rattle.rules.specs.Refusal.{unless, refusal, stateRefusal, actRefusal}
+use Rattle.rules.specs.Figure2.{marked, figureStep, registersStep, versionIn, foundIn, isWritten}
 use Rattle.rules.specs.Figure3.{cacheStep}
-use Rattle.rules.specs.Promise.{Promise, Followed, WellFigure, figureOf, factsOf, target}
+use Rattle.rules.specs.Promise.{Promise, Followed, WellFigure, factsOf, target}
 use Rattle.rules.proofs.Chain.{passed}
-use Rattle.rules.proofs.Promise.{facts-fit}
+use Rattle.rules.proofs.Registers.{facts-fit, live-mark}
 use Rattle.rules.proofs.WellSteps.{mark-well}
-use Rattle.rules.proofs.Circle.{live-mark}
 use Rattle.frames.specs.Circle.{frameAt}
 use Rattle.written.specs.Bits.{effective}
 use Rattle.written.specs.Well.{WellBits}
@@ -31,7 +32,7 @@ use Rattle.written.proofs.Keeping.{mark-keeps}
 use Rattle.cache.specs.Entries.{lineOf}
 use Rattle.storage.specs.declared.Registers.{Registers}
 use Rattle.versions.specs.Newest.{pageOf}
-use Rattle.storage.specs.Storage.{Storage, stateOf, settingsIn, lengthsIn, liveIn, writtenIn, frameIn, archiveIn, versionAt, latestIn, frameNumber, newestFrame, WellStore, store}
+use Rattle.storage.specs.Storage.{Storage, stateOf, settingsIn, registersIn, lengthsIn, liveIn, writtenIn, frameIn, archiveIn, versionAt, latestIn, frameNumber, newestFrame, WellStore, store}
 use Rattle.storage.specs.Steps.{markedRegisters, markedState}
 use Rattle.storage.specs.Admit.{admitted}
 use Rattle.storage.proofs.Limits.{Limits, limits}
@@ -51,7 +52,7 @@ module _ (x : Storage) (q : WellStore x) (room : liveIn (x .state) < x .state .r
 
   live : liveIn (opened .state) ≡ n + 1
   unfolding markedState
-  live = live-mark (x .state .registers .frames) (x .state .registers .cmf) (x .state .registers .omf) (lim .fits .cmf-below) (lim .fits .omf-below) room
+  live = live-mark (registersIn (x .state)) (lim .fits) room
 
   -- the frame that opens has no written bit, and the others lie one mark further back
   abbrev shape : (live back line : ℕ) → Option Line
@@ -82,13 +83,13 @@ module _ (x : Storage) (q : WellStore x) (room : liveIn (x .state) < x .state .r
       test (yes h) = lt-ltb (suc j) (n + 1) (omega arith) ∙ sym (lt-ltb j n h)
       test (no h) = le-ltb (suc j) (n + 1) (omega arith) ∙ sym (le-ltb j n (omega arith))
 
-  opened-frame : (j l : ℕ) → frameIn opened j l ≡ marked (figureOf store x) j l
-  unfolding frameIn marked markedState figureOf versionAt pageOf
+  opened-frame : (j l : ℕ) → frameIn opened j l ≡ marked (store .figure x) j l
+  unfolding frameIn marked markedState versionAt pageOf
   opened-frame zero l = ap (λ (m : ℕ). shape m 0 l) live ∙ shape-first l
   opened-frame (suc j) l = ap (λ (m : ℕ). shape m (suc j) l) live ∙ shape-next j l
 
-  opened-figure : figureOf store opened ≡ figureStep MARK (figureOf store x)
-  unfolding figureOf figureStep markedState archiveIn
+  opened-figure : store .figure opened ≡ figureStep (CHANGE MARK) (store .registers x) (store .figure x)
+  unfolding figureStep markedState archiveIn
   opened-figure =
       ap₂ (λ (m : ℕ) (f : ℕ → ℕ → Option Line). record { live = m; frame = f; archive = archiveIn x }) live (fun-ext (λ j. fun-ext (λ l. opened-frame j l)))
 
@@ -96,31 +97,29 @@ module _ (x : Storage) (q : WellStore x) (room : liveIn (x .state) < x .state .r
   one-more = live ∙ add-one n
 
   opened-latest : (l : ℕ) → latestIn opened l ≡ latestIn x l
-  unfolding latestIn versionIn marked figureOf markedState archiveIn
+  unfolding latestIn versionIn marked markedState archiveIn
   opened-latest l =
       ap₂ (λ (m : ℕ) (row : ℕ → Option Line). versionIn m row (archiveIn x l)) one-more (fun-ext (λ j. opened-frame j l))
 
-  number-further : (o : Origin) → frameNumber (opened .state) (further o) ≡ frameNumber (x .state) o
+  number-further : (o : Place) → frameNumber (opened .state) (further o) ≡ frameNumber (x .state) o
   unfolding frameNumber further markedState
-  number-further from-cache = refl
-  number-further (from-frame j) = ap (frameAt (x .state .registers .frames) (x .state .registers .omf)) (omega (arith, live))
-  number-further from-archive = refl
+  number-further (in-frame j) = ap (frameAt (x .state .registers .frames) (x .state .registers .omf)) (omega (arith, live))
+  number-further in-archive = refl
 
   opened-newest : (l : ℕ) → newestFrame opened l ≡ newestFrame x l
-  unfolding newestFrame foundIn marked isWritten figureOf
+  unfolding newestFrame foundIn marked isWritten
   opened-newest l =
       ap₂ (λ (m : ℕ) (row : ℕ → Option Line). frameNumber (opened .state) (foundIn m (λ j. isWritten (row j)))) one-more (fun-ext (λ j. opened-frame j l))
       ∙ number-further (foundIn n (λ j. isWritten (frameIn x j l)))
 
-  next-well : WellFigure (settingsIn (x .state)) (figureStep MARK (figureOf store x))
-  unfolding figureOf
-  next-well = mark-well (settingsIn (x .state)) (figureOf store x) (well-figure x q) room
+  next-well : WellFigure (settingsIn (x .state)) (figureStep (CHANGE MARK) (store .registers x) (store .figure x))
+  next-well = mark-well (settingsIn (x .state)) (store .registers x) (store .figure x) (well-figure x q) room
 
   opened-well : WellStore opened
   unfolding markedState
   opened-well =
       record {
-        fits = facts-fit (settingsIn (x .state)) _ (x .state .registers .omf) (record { limits = lim .fits .limits; cmf-below = mod-lt _ (omega (arith, lim .fits .omf-below)); omf-below = lim .fits .omf-below });
+        fits = facts-fit _ (record { limits = lim .fits .limits; cmf-below = mod-lt _ (omega (arith, lim .fits .omf-below)); omf-below = lim .fits .omf-below });
         long = q .long;
         bits = subst (λ (m : ℕ). WellBits (writtenIn x) (x .state .registers .tag) m) (sym live) (mark-keeps (writtenIn x) (x .state .registers .tag) n (q .bits));
         pages = q .pages;
@@ -131,33 +130,30 @@ module _ (x : Storage) (q : WellStore x) (room : liveIn (x .state) < x .state .r
         coherent = λ e v. (q .coherent e v .0 ∙ sym (opened-latest (lineOf (x .state .cache) e)), q .coherent e v .1 ∙ sym (opened-newest (lineOf (x .state .cache) e)));
       }
 
-  pub opened-followed : Followed store MARK x (outcome 0) opened
-  unfolding accepted cmfStep omfStep cacheStep markedState
+  pub opened-followed : Followed store (CHANGE MARK) x (outcome 0) opened
+  unfolding accepted cacheStep markedState
   opened-followed =
       record {
         answer = refl;
         well = opened-well;
-        settings = refl;
-        cmf = refl;
-        omf = refl;
         figure = opened-figure;
         cache = refl;
       }
 
 -- The promise: refused, and accepted.
 module _ (x : Storage) (r : ℕ) (told : r ≡ admittedIn x (unless (ltb (liveIn (x .state)) (x .state .registers .frames)) 12 0)) where
-  pub mark-refused : r ≢ 0 → Promise store MARK x (outcome r) x
-  unfolding refusal stateRefusal factsOf admitted refused noPage
-  mark-refused z = turned-down x MARK r told z
+  pub mark-refused : r ≢ 0 → Promise store (ON (CHANGE MARK)) x (outcome r) x
+  unfolding refusal actRefusal stateRefusal factsOf admitted refused
+  mark-refused z = turned-down x (ON (CHANGE MARK)) r told z
 
   pub mark-opens : r ≡ 0 → (t : Registers) → t ≡ markedRegisters (x .state .registers)
-      → Promise store MARK x (outcome 0) (record { state = stateOf t (x .state .cache); memory = x .memory })
+      → Promise store (ON (CHANGE MARK)) x (outcome 0) (record { state = stateOf t (x .state .cache); memory = x .memory })
       × (stateOf t (x .state .cache) ≡ markedState (x .state))
-  unfolding refusal stateRefusal factsOf admitted noPage target markedState
+  unfolding refusal actRefusal stateRefusal factsOf admitted refused registersStep target markedState
   mark-opens z t e =
-      let rest = admitted-rest (settingsIn (x .state)) (x .state .registers .cmf) (x .state .registers .omf) (lengthsIn (x .memory)) r _ told z in
+      let rest = admitted-rest (registersIn (x .state)) (lengthsIn (x .memory)) r _ told z in
       let below = ltb-true (liveIn (x .state)) (x .state .registers .frames) (passed (ltb (liveIn (x .state)) (x .state .registers .frames)) 12 0 (omega arith) rest .0) in (
-        subst (λ (s : Registers). Promise store MARK x (outcome 0) (record { state = stateOf s (x .state .cache); memory = x .memory })) (sym e)
-            (let-through x MARK r told z refl (λ q. opened-followed x q below) refl refl),
+        subst (λ (s : Registers). Promise store (ON (CHANGE MARK)) x (outcome 0) (record { state = stateOf s (x .state .cache); memory = x .memory })) (sym e)
+            (let-through x (ON (CHANGE MARK)) r told z refl (record { registers = refl; followed = λ q. opened-followed x q below }) refl refl),
         ap (λ (s : Registers). stateOf s (x .state .cache)) e,
       )

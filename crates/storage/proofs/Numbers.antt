@@ -5,8 +5,8 @@ use Prim.Native.Nat.{ℕ, _≤_, _<_}
 use native.Mathlib.Omega.{arith}
 use borrow.Author.Tests.{lt-ltb, le-ltb, ne-eqb}
 use lib.Dec.{ltb}
-use Rattle.rules.specs.Call.{Origin}
-use Rattle.rules.specs.Call.Origin.{from-cache, from-frame, from-archive}
+use Rattle.rules.specs.Call.{Place}
+use Rattle.rules.specs.Call.Place.{in-frame, in-archive}
 use Rattle.frames.specs.Circle.{frameAt, indexOf}
 use Rattle.frames.proofs.Circle.{index-frame, frame-below}
 use Rattle.cache.specs.declared.Cache.{Cache}
@@ -32,8 +32,7 @@ module _ (frames omf : ℕ) (few : frames ≤ 256) (h : omf < frames) (m : ℕ) 
       ap₂ (λ (s t : Bool). not s && not t) (ne-eqb (frameAt frames omf i) archiveFrame (λ e. omega (arith, frame-below frames omf h i))) (below-frame i b)
 
 -- A use of the cache leaves the frames' numbers.
-pub used-number : (s : State) (hint : ℕ) (c : Cache) (o : Origin) → frameNumber (usedState s hint c) o ≡ frameNumber s o
+pub used-number : (s : State) (hint : ℕ) (c : Cache) (o : Place) → frameNumber (usedState s hint c) o ≡ frameNumber s o
 unfolding frameNumber usedState
-used-number s hint c from-cache = refl
-used-number s hint c (from-frame j) = refl
-used-number s hint c from-archive = refl
+used-number s hint c (in-frame j) = refl
+used-number s hint c in-archive = refl

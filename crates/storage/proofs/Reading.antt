@@ -7,11 +7,11 @@ use native.Mathlib.Omega.{arith}
 use borrow.Author.Tests.{lt-ltb}
 use lib.ListN.{getD}
 use Rattle.rules.specs.Line.{IsLine, zeros}
-use Rattle.rules.specs.Call.Origin.{from-cache}
-use Rattle.rules.specs.Refusal.{stateFits}
+use Rattle.rules.specs.Call.Origin.{from-cache, from}
+use Rattle.rules.specs.Registers.{stateFits}
 use Rattle.rules.specs.Figure2.{foundIn, isWritten, figureSeen}
 use Rattle.rules.specs.Figure3.{holds}
-use Rattle.rules.specs.Promise.{figureOf, seenOf}
+use Rattle.rules.specs.Promise.{seenOf}
 use Rattle.rules.proofs.History.{version-line}
 use Rattle.frames.specs.Circle.{frameAt}
 use Rattle.frames.specs.Search.{greatest}
@@ -32,7 +32,7 @@ use Rattle.cache.proofs.Hits.{hit-shown, found-at}
 use Rattle.versions.specs.declared.Spot.the-variants.{Page, Archive}
 use Rattle.versions.specs.declared.Version.{Version}
 use Rattle.versions.specs.Newest.{pageOf, spotOf, contentOf, numberOf, backIn, originOf, newestOf, latestFrom, latestHeld, latestOf}
-use Rattle.storage.specs.Storage.{Storage, settingsIn, liveIn, writtenIn, versionAt, frameIn, archiveIn, latestIn, frameNumber, newestFrame, WellStore, store}
+use Rattle.storage.specs.Storage.{Storage, registersIn, liveIn, writtenIn, versionAt, frameIn, archiveIn, latestIn, frameNumber, newestFrame, WellStore, store}
 use Rattle.storage.proofs.Limits.{Limits, limits}
 use Rattle.storage.proofs.Counting.{written-effective}
 use Rattle.storage.proofs.Figures.{frame-at}
@@ -40,7 +40,7 @@ use Rattle.storage.proofs.Rows.{version-same, found-same}
 
 -- What the search for a line's newest version asks of storage.
 pub record Findable (x : Storage) : Type 0 where
-  pub fits : stateFits (settingsIn (x .state)) (x .state .registers .cmf) (x .state .registers .omf) ≡ true
+  pub fits : stateFits (registersIn (x .state)) ≡ true
   pub pages :
       Confirmed (neededAt (writtenIn x)) (placesOf (writtenIn x)) (x .state .registers .pages) (λ y. getD (x .memory .table) y 0)
       (λ p. getD (x .memory .owners) p 0)
@@ -122,40 +122,40 @@ module _ (x : Storage) (q : Findable x) where
     unfolding newestFrame
     number-newest = numbered newest newest-facts ∙ ap (frameNumber (x .state)) (sym origin-found)
 
-    backed : (r : Found) → originOf (backIn n r) ≡ backOf n r
+    backed : (r : Found) → originOf (backIn n r) ≡ from (backOf n r)
     unfolding originOf backIn backOf
     backed (At i) = refl
     backed Nothing = refl
 
     -- The version found by the code is the most recent one, with its frame and its origin,
     pub newest-told : (v : Version) → v ≡ newestOf (writtenIn x) (x .state .registers .pages) n (x .memory .archive) (x .memory .pool) (x .memory .table) l
-        → (v .content ≡ latestIn x l) × (v .frame ≡ newestFrame x l) × (originOf (v .origin) ≡ seenOf store x .origin l)
-    unfolding newestOf seenOf figureSeen figureOf
+        → (v .content ≡ latestIn x l) × (v .frame ≡ newestFrame x l) × (originOf (v .origin) ≡ from (seenOf store x .origin l))
+    unfolding newestOf seenOf figureSeen
     newest-told v e =
-        (ap (λ (w : Version). w .content) e ∙ content-latest, ap (λ (w : Version). w .frame) e ∙ number-newest, ap (λ (w : Version). originOf (w .origin)) e ∙ (backed newest ∙ sym origin-found))
+        (ap (λ (w : Version). w .content) e ∙ content-latest, ap (λ (w : Version). w .frame) e ∙ number-newest, ap (λ (w : Version). originOf (w .origin)) e ∙ (backed newest ∙ ap from (sym origin-found)))
 
 module _ (x : Storage) (q : WellStore x) (l : ℕ) (b : l < x .state .registers .lines) where
   -- and so is the one that the cache has.
   pub latest-told : (v : Version) → v ≡ latestOf (x .state .cache) (writtenIn x) (x .state .registers .pages) (liveIn (x .state)) (x .memory .archive) (x .memory .pool) (x .memory .table) l
       → (v .content ≡ latestIn x l) × (v .frame ≡ newestFrame x l)
-      × (originOf (v .origin) ≡ cond (holds (shown (x .state .cache)) l) from-cache (seenOf store x .origin l))
+      × (originOf (v .origin) ≡ cond (holds (shown (x .state .cache)) l) from-cache (from (seenOf store x .origin l)))
   unfolding latestHeld latestFrom originOf isHit
   latest-told v e = go (found (x .state .cache) l) refl
     where
       go : (r : Entry) → found (x .state .cache) l ≡ r
           → (v .content ≡ latestIn x l) × (v .frame ≡ newestFrame x l)
-          × (originOf (v .origin) ≡ cond (holds (shown (x .state .cache)) l) from-cache (seenOf store x .origin l))
+          × (originOf (v .origin) ≡ cond (holds (shown (x .state .cache)) l) from-cache (from (seenOf store x .origin l)))
       go (Hit h) d =
           let f = found-at (x .state .cache) l h d in
           let c = q .coherent h (f .valid) in
           let is = e ∙ ap (latestFrom (x .state .cache .frames) (x .state .cache .bytes) _) d in (
             ap (λ (w : Version). w .content) is ∙ (c .0 ∙ ap (latestIn x) (f .line)),
             ap (λ (w : Version). w .frame) is ∙ (c .1 ∙ ap (newestFrame x) (f .line)),
-            ap (λ (w : Version). originOf (w .origin)) is ∙ sym (ap (λ (t : Bool). cond t from-cache (seenOf store x .origin l)) (sym (hit-shown (x .state .cache) l) ∙ ap isHit d)),
+            ap (λ (w : Version). originOf (w .origin)) is ∙ sym (ap (λ (t : Bool). cond t from-cache (from (seenOf store x .origin l))) (sym (hit-shown (x .state .cache) l) ∙ ap isHit d)),
           )
       go Miss d =
           let r = newest-told x (well-findable x q) l b v (e ∙ ap (latestFrom (x .state .cache .frames) (x .state .cache .bytes) _) d) in
-          (r .0, r .1, r .2 ∙ sym (ap (λ (t : Bool). cond t from-cache (seenOf store x .origin l)) (sym (hit-shown (x .state .cache) l) ∙ ap isHit d)))
+          (r .0, r .1, r .2 ∙ sym (ap (λ (t : Bool). cond t from-cache (from (seenOf store x .origin l))) (sym (hit-shown (x .state .cache) l) ∙ ap isHit d)))
 
   -- It is a line of bytes.
   pub latest-line : IsLine (latestIn x l)

@@ -13,19 +13,20 @@ use lib.Dec.{ltb}
 use lib.ListN.{length, getD, drop}
 use Rattle.rules.specs.Settings.{Pieces, elements, enough}
 use Rattle.rules.specs.Line.{Line}
-use Rattle.rules.specs.Call.{Origin, refused}
-use Rattle.rules.specs.Call.Origin.{from-cache, from-frame, from-archive}
+use Rattle.rules.specs.Call.{Place, refused}
+use Rattle.rules.specs.Call.Place.{in-frame, in-archive}
 use Rattle.rules.specs.Call.Answer.{outcome}
-use Rattle.rules.specs.Call.Call.{ROLLBACK}
+use Rattle.rules.specs.Call.Change.{ROLLBACK}
+use Rattle.rules.specs.Call.Act.{CHANGE}
+use Rattle.rules.specs.Call.Call.{ON}
 use Rattle.rules.specs.Seen.{accepted, dropped}
-use Rattle.rules.specs.Refusal.{markedRefusal, stateRefusal, refusal, noPage}
-use Rattle.rules.specs.Figure2.{figureStep, cmfStep, omfStep, figureSeen, versionIn, foundIn, isWritten}
+use Rattle.rules.specs.Refusal.{markedRefusal, stateRefusal, refusal, actRefusal}
+use Rattle.rules.specs.Figure2.{figureStep, registersStep, figureSeen, versionIn, foundIn, isWritten}
 use Rattle.rules.specs.Figure3.{WellCache, cacheStep}
-use Rattle.rules.specs.Promise.{Promise, Followed, factsOf, target, WellFigure, figureOf, seenOf}
-use Rattle.rules.proofs.Promise.{facts-fit}
+use Rattle.rules.specs.Promise.{Promise, Followed, factsOf, target, WellFigure, seenOf}
+use Rattle.rules.proofs.Registers.{facts-fit, live-rollback}
 use Rattle.rules.proofs.WellSteps.{rollback-well}
 use Rattle.rules.proofs.WellCache.{forget-well}
-use Rattle.rules.proofs.Circle.{live-rollback}
 use Rattle.frames.specs.Circle.{frameAt}
 use Rattle.written.specs.Bits.{effective}
 use Rattle.written.specs.Steps.{RolledBack}
@@ -40,7 +41,7 @@ use Rattle.cache.proofs.Frames.{forgotten-sized, forgotten-shown, forgotten-all
 use Rattle.storage.specs.declared.Registers.{Registers}
 use Rattle.storage.specs.declared.State.{State}
 use Rattle.versions.specs.Newest.{pageOf}
-use Rattle.storage.specs.Storage.{Storage, stateOf, storageOf, memoryOf, settingsIn, lengthsIn, Recent, Coherent, liveIn, writtenIn, indexBack, frameIn, archiveIn, versionAt, latestIn, frameNumber, newestFrame, WellStore, store}
+use Rattle.storage.specs.Storage.{Storage, stateOf, storageOf, memoryOf, settingsIn, registersIn, lengthsIn, Recent, Coherent, liveIn, writtenIn, indexBack, frameIn, archiveIn, versionAt, latestIn, frameNumber, newestFrame, WellStore, store}
 use Rattle.storage.specs.Steps.{rolledRegisters, rolledState, RolledTo}
 use Rattle.storage.specs.Admit.{admitted}
 use Rattle.storage.proofs.Limits.{Limits, limits}
@@ -71,7 +72,7 @@ module _ (x : Storage) (q : WellStore x) (k : ℕ) (low : k ≤ liveIn (x .state
 
   live : liveIn (dropped-to .state) ≡ kept
   unfolding rolledState
-  live = live-rollback (x .state .registers .frames) (x .state .registers .cmf) (x .state .registers .omf) (lim .fits .cmf-below) (lim .fits .omf-below) k low
+  live = live-rollback (registersIn (x .state)) (lim .fits) k low
 
   lengths : lengthsIn (dropped-to .memory) ≡ lengthsIn (x .memory)
   lengths =
@@ -102,43 +103,41 @@ module _ (x : Storage) (q : WellStore x) (k : ℕ) (low : k ≤ liveIn (x .state
       frames-alike dropped-to x j (k + j) l refl (λ h. omega (arith, live)) (λ h. omega (arith, live))
       (λ h d b. subst (λ (i : ℕ). AlikeAt dropped-to x i (indexBack (x .state) (k + j)) l) (sym (nearer j)) (rolled-alike (indexBack (x .state) (k + j)) l (omega arith) b))
 
-  rolled-figure : figureOf store dropped-to ≡ figureStep (ROLLBACK k) (figureOf store x)
-  unfolding figureOf figureStep rolledState archiveIn
+  rolled-figure : store .figure dropped-to ≡ figureStep (CHANGE (ROLLBACK k)) (store .registers x) (store .figure x)
+  unfolding figureStep rolledState archiveIn
   rolled-figure =
       ap₂ (λ (m : ℕ) (f : ℕ → ℕ → Option Line). record { live = m; frame = f; archive = archiveIn x }) live (fun-ext (λ j. fun-ext (λ l. rolled-frame j l)))
 
   -- A line's most recent version lay in a dropped frame just if its entry's frame says so.
-  abbrev origin : ℕ → Origin
+  abbrev origin : ℕ → Place
   origin l = foundIn n (λ j. isWritten (frameIn x j l))
 
-  gone-number : (o : Origin) → Within n o → isDropped (x .state .registers .omf) (x .state .registers .frames) kept (frameNumber (x .state) o) ≡ dropped k o
+  gone-number : (o : Place) → Within n o → isDropped (x .state .registers .omf) (x .state .registers .frames) kept (frameNumber (x .state) o) ≡ dropped k o
   unfolding dropped isDropped frameNumber
-  gone-number from-cache h = refl
-  gone-number (from-frame j) h =
+  gone-number (in-frame j) h =
       dropped-frame (x .state .registers .frames) (x .state .registers .omf) (lim .good .frames-to) (lim .fits .omf-below) kept (n - 1 - j) (omega (arith, lim .live-most))
       ∙ turned (decLt j k)
     where
       turned : Dec (j < k) → not (ltb (n - 1 - j) kept) ≡ ltb j k
       turned (yes b) = ap not (le-ltb (n - 1 - j) kept (omega arith)) ∙ sym (lt-ltb j k b)
       turned (no b) = ap not (lt-ltb (n - 1 - j) kept (omega arith)) ∙ sym (le-ltb j k (omega arith))
-  gone-number from-archive h = refl
+  gone-number in-archive h = refl
 
   gone-frame : (l : ℕ) → isDropped (x .state .registers .omf) (x .state .registers .frames) kept (newestFrame x l) ≡ dropped k (origin l)
   unfolding newestFrame
   gone-frame l = gone-number (origin l) (found-within n (λ j. isWritten (frameIn x j l)))
 
-  rolled-cache : shown (dropped-to .state .cache) ≡ cacheStep (seenOf store x) (ROLLBACK k) (shown (x .state .cache))
-  unfolding rolledState cacheStep seenOf figureSeen figureOf
+  rolled-cache : shown (dropped-to .state .cache) ≡ cacheStep (seenOf store x) (CHANGE (ROLLBACK k)) (shown (x .state .cache))
+  unfolding rolledState cacheStep seenOf figureSeen
   rolled-cache =
       forgotten-shown (x .state .cache) (q .sized) (x .state .registers .omf) (x .state .registers .frames) kept (λ l. dropped k (origin l))
       (λ e b v. sym (ap (isDropped (x .state .registers .omf) (x .state .registers .frames) kept) (q .coherent e v .1) ∙ gone-frame (lineOf (x .state .cache) e)))
 
   -- The other lines are found as before.
-  number-nearer : (o : Origin) → Within kept o → frameNumber (dropped-to .state) o ≡ frameNumber (x .state) (shift k o)
+  number-nearer : (o : Place) → Within kept o → frameNumber (dropped-to .state) o ≡ frameNumber (x .state) (shift k o)
   unfolding frameNumber shift rolledState
-  number-nearer from-cache h = refl
-  number-nearer (from-frame j) h = ap (frameAt (x .state .registers .frames) (x .state .registers .omf)) (nearer j)
-  number-nearer from-archive h = refl
+  number-nearer (in-frame j) h = ap (frameAt (x .state .registers .frames) (x .state .registers .omf)) (nearer j)
+  number-nearer in-archive h = refl
 
   module _ (l : ℕ) (stays : dropped k (origin l) ≡ false) where
     all : n ≡ k + kept
@@ -158,7 +157,7 @@ module _ (x : Storage) (q : WellStore x) (k : ℕ) (low : k ≤ liveIn (x .state
         ∙ ap (frameNumber (x .state)) (sym (kept-found k kept n (λ j. isWritten (frameIn x j l)) (λ j. isWritten (frameIn x (k + j) l)) all (λ j. refl) stays)))
 
   rolled-entries : WellCache (settingsIn (x .state)) (shown (dropped-to .state .cache))
-  unfolding cacheStep seenOf figureSeen figureOf
+  unfolding cacheStep seenOf figureSeen
   rolled-entries =
       subst (WellCache (settingsIn (x .state))) (sym rolled-cache)
       (forget-well (settingsIn (x .state)) (λ l. dropped k (origin l)) (shown (x .state .cache)) (q .entries))
@@ -171,15 +170,14 @@ module _ (x : Storage) (q : WellStore x) (k : ℕ) (low : k ≤ liveIn (x .state
       let stays = sym (gone-frame l) ∙ (sym (ap (isDropped (x .state .registers .omf) (x .state .registers .frames) kept) (c .1)) ∙ h) in
       (c .0 ∙ sym (rolled-latest l stays), c .1 ∙ sym (rolled-newest l stays)))
 
-  next-well : WellFigure (settingsIn (x .state)) (figureStep (ROLLBACK k) (figureOf store x))
-  unfolding figureOf
-  next-well = rollback-well (settingsIn (x .state)) (figureOf store x) (well-figure x q) k low
+  next-well : WellFigure (settingsIn (x .state)) (figureStep (CHANGE (ROLLBACK k)) (store .registers x) (store .figure x))
+  next-well = rollback-well (settingsIn (x .state)) (store .registers x) (store .figure x) (well-figure x q) k low
 
   rolled-store : WellStore dropped-to
   unfolding rolledState
   rolled-store =
       record {
-        fits = facts-fit (settingsIn (x .state)) _ (x .state .registers .omf) (record { limits = lim .fits .limits; cmf-below = mod-lt _ (omega (arith, lim .fits .omf-below)); omf-below = lim .fits .omf-below });
+        fits = facts-fit _ (record { limits = lim .fits .limits; cmf-below = mod-lt _ (omega (arith, lim .fits .omf-below)); omf-below = lim .fits .omf-below });
         long = subst (λ (p : Pieces). enough (settingsIn (x .state)) p ≡ true) (sym lengths) (q .long);
         bits = subst (λ (m : ℕ). WellBits (writtenIn dropped-to) next m) (sym live) (rolled-well (writtenIn x) (x .state .registers .tag) kept n (q .bits) groups history next r (omega (arith, lim .live-most, lim .good .frames-to)));
         pages = rolled-confirmed (writtenIn x) (x .state .registers .tag) kept n (q .bits) groups history next r (x .state .registers .pages) (λ y. getD (x .memory .table) y 0) (λ p. getD (x .memory .owners) p 0) (q .pages);
@@ -190,24 +188,21 @@ module _ (x : Storage) (q : WellStore x) (k : ℕ) (low : k ≤ liveIn (x .state
         coherent = rolled-coherent;
       }
 
-  pub rolled-followed : Followed store (ROLLBACK k) x (outcome 0) dropped-to
-  unfolding accepted cmfStep omfStep rolledState
+  pub rolled-followed : Followed store (CHANGE (ROLLBACK k)) x (outcome 0) dropped-to
+  unfolding accepted rolledState
   rolled-followed =
       record {
         answer = refl;
         well = rolled-store;
-        settings = refl;
-        cmf = refl;
-        omf = refl;
         figure = rolled-figure;
         cache = rolled-cache;
       }
 
 -- The promise: refused, and accepted. The tag given to the history is the state's, cut to its 8 bits.
 module _ (x : Storage) (k a : ℕ) (told : a ≡ admittedIn x (markedRefusal (liveIn (x .state)) k)) where
-  pub rollback-refused : a ≢ 0 → Promise store (ROLLBACK k) x (outcome a) x
-  unfolding refusal stateRefusal factsOf admitted refused noPage
-  rollback-refused z = turned-down x (ROLLBACK k) a told z
+  pub rollback-refused : a ≢ 0 → Promise store (ON (CHANGE (ROLLBACK k))) x (outcome a) x
+  unfolding refusal actRefusal stateRefusal factsOf admitted refused
+  rollback-refused z = turned-down x (ON (CHANGE (ROLLBACK k))) a told z
 
   module _ (z : a ≡ 0) (live : ℕ) (live-is : live ≡ liveIn (x .state)) (groups history : List ℕ) (next : ℕ)
       (r : RolledBack (writtenIn x) (x .state .registers .tag % 256) (live - k) groups history next) where
@@ -223,16 +218,16 @@ module _ (x : Storage) (k a : ℕ) (told : a ≡ admittedIn x (markedRefusal (li
     abbrev pub after : State → Storage
     after s = storageOf s (x .memory .archive) (x .memory .pool) groups (x .memory .table) (x .memory .owners) history
 
-    followed : WellStore x → Followed store (ROLLBACK k) x (outcome 0) (after (rolledState (x .state) k next))
+    followed : WellStore x → Followed store (CHANGE (ROLLBACK k)) x (outcome 0) (after (rolledState (x .state) k next))
     followed q =
         let tag : x .state .registers .tag % 256 ≡ x .state .registers .tag = omega (arith, q .bits .tag-below) in
-        rolled-followed x q k (frames-room (settingsIn (x .state)) (x .state .registers .cmf) (x .state .registers .omf) (lengthsIn (x .memory)) a k told z .k-low) groups history next
+        rolled-followed x q k (frames-room (registersIn (x .state)) (lengthsIn (x .memory)) a k told z .k-low) groups history next
         (subst (λ (t : ℕ). RolledBack (writtenIn x) t (liveIn (x .state) - k) groups history next) tag exact)
 
-    promised : Promise store (ROLLBACK k) x (outcome 0) (after (rolledState (x .state) k next))
-    unfolding refusal stateRefusal factsOf admitted noPage target elements
+    promised : Promise store (ON (CHANGE (ROLLBACK k))) x (outcome 0) (after (rolledState (x .state) k next))
+    unfolding refusal actRefusal stateRefusal factsOf admitted refused registersStep target elements rolledState
     promised =
-        let-through x (ROLLBACK k) a told z refl followed
+        let-through x (ON (CHANGE (ROLLBACK k))) a told z refl (record { registers = refl; followed = followed })
         (ap₂ (λ (g h : ℕ). record { archive = length (x .memory .archive); pool = length (x .memory .pool); groups = g; table = length (x .memory .table); owners = length (x .memory .owners); history = h })
         (rolled-groups-long (writtenIn x) (x .state .registers .tag % 256) (live - k) groups history next r small)
         (rolled-history-long (writtenIn x) (x .state .registers .tag % 256) (live - k) groups history next r small))
@@ -243,13 +238,13 @@ module _ (x : Storage) (k a : ℕ) (told : a ≡ admittedIn x (markedRefusal (li
     -- in the form in which the code has the registers and the valid flags
     pub rollback-drops : (t : Registers) (valid : List ℕ) → t ≡ rolledRegisters (x .state .registers) k next
         → valid ≡ flagsAfter (x .state .cache .frames) (x .state .registers .omf) (x .state .registers .frames) (live - k) (x .state .cache .valid)
-        → Promise store (ROLLBACK k) x (outcome 0) (after (stateOf t (withFlags (x .state .cache) valid)))
+        → Promise store (ON (CHANGE (ROLLBACK k))) x (outcome 0) (after (stateOf t (withFlags (x .state .cache) valid)))
         × RolledTo (x .state) (x .memory .groups) (x .memory .history) k (stateOf t (withFlags (x .state .cache) valid)) groups history
     unfolding rolledState forgotten
     rollback-drops t valid e flags =
         let same : stateOf t (withFlags (x .state .cache) valid) ≡ rolledState (x .state) k next =
         λ i. stateOf (e i) (withFlags (x .state .cache) ((flags ∙ ap (λ (n : ℕ). flagsAfter (x .state .cache .frames) (x .state .registers .omf) (x .state .registers .frames) n (x .state .cache .valid)) kept-is) i))
         in (
-          subst (λ (s : State). Promise store (ROLLBACK k) x (outcome 0) (after s)) (sym same) promised,
+          subst (λ (s : State). Promise store (ON (CHANGE (ROLLBACK k))) x (outcome 0) (after s)) (sym same) promised,
           subst (λ (s : State). RolledTo (x .state) (x .memory .groups) (x .memory .history) k s groups history) (sym same) (record { state = refl; memory = exact }),
         )

@@ -7,55 +7,49 @@ use native.Mathlib.Omega.{arith}
 use borrow.Author.Tests.{lt-ltb, le-ltb}
 use lib.Dec.{leb·suc-suc}
 use Rattle.rules.specs.Line.{Line}
-use Rattle.rules.specs.Call.{Origin}
-use Rattle.rules.specs.Call.Origin.{from-cache, from-frame, from-archive}
+use Rattle.rules.specs.Call.{Place}
+use Rattle.rules.specs.Call.Place.{in-frame, in-archive}
 use Rattle.rules.specs.Seen.{further, dropped}
 use Rattle.rules.specs.Figure2.{versionIn, foundIn, isWritten}
 
 -- A version that lies k frames further back.
-unfoldable pub shift : ℕ → Origin → Origin
-shift k from-cache = from-cache
-shift k (from-frame j) = from-frame (k + j)
-shift k from-archive = from-archive
+unfoldable pub shift : ℕ → Place → Place
+shift k (in-frame j) = in-frame (k + j)
+shift k in-archive = in-archive
 
-shift-none : (o : Origin) → shift 0 o ≡ o
+shift-none : (o : Place) → shift 0 o ≡ o
 unfolding shift
-shift-none from-cache = refl
-shift-none (from-frame j) = ap from-frame (omega arith)
-shift-none from-archive = refl
+shift-none (in-frame j) = ap in-frame (omega arith)
+shift-none in-archive = refl
 
-shift-further : (k : ℕ) (o : Origin) → further (shift k o) ≡ shift (suc k) o
+shift-further : (k : ℕ) (o : Place) → further (shift k o) ≡ shift (suc k) o
 unfolding shift further
-shift-further k from-cache = refl
-shift-further k (from-frame j) = ap from-frame (omega arith)
-shift-further k from-archive = refl
+shift-further k (in-frame j) = ap in-frame (omega arith)
+shift-further k in-archive = refl
 
 -- What a search finds in n frames lies in one of them.
-abbrev pub Within : ℕ → Origin → Type 0
-Within n from-cache = Unit {0}
-Within n (from-frame j) = j < n
-Within n from-archive = Unit {0}
+abbrev pub Within : ℕ → Place → Type 0
+Within n (in-frame j) = j < n
+Within n in-archive = Unit {0}
 
-further-within : (n : ℕ) (o : Origin) → Within n o → Within (suc n) (further o)
+further-within : (n : ℕ) (o : Place) → Within n o → Within (suc n) (further o)
 unfolding further
-further-within n from-cache h = tt
-further-within n (from-frame j) h = omega arith
-further-within n from-archive h = tt
+further-within n (in-frame j) h = omega arith
+further-within n in-archive h = tt
 
 pub found-within : (n : ℕ) (f : ℕ → Bool) → Within n (foundIn n f)
 unfolding foundIn
 found-within zero f = tt
 found-within (suc n) f = go (found-within n (λ j. f (suc j))) (f 0)
   where
-    go : Within n (foundIn n (λ j. f (suc j))) → (b : Bool) → Within (suc n) (cond b (from-frame 0) (further (foundIn n (λ j. f (suc j)))))
+    go : Within n (foundIn n (λ j. f (suc j))) → (b : Bool) → Within (suc n) (cond b (in-frame 0) (further (foundIn n (λ j. f (suc j)))))
     go h true = omega arith
     go h false = further-within n (foundIn n (λ j. f (suc j))) h
 
-further-dropped : (k : ℕ) (o : Origin) → dropped (suc k) (further o) ≡ dropped k o
+further-dropped : (k : ℕ) (o : Place) → dropped (suc k) (further o) ≡ dropped k o
 unfolding dropped further
-further-dropped k from-cache = refl
-further-dropped k (from-frame j) = leb·suc-suc (suc j) k
-further-dropped k from-archive = refl
+further-dropped k (in-frame j) = leb·suc-suc (suc j) k
+further-dropped k in-archive = refl
 
 -- A version that does not lie in the k newest of n frames is found among the m others.
 pub kept-found : (k m n : ℕ) (f rest : ℕ → Bool) → n ≡ k + m → ((j : ℕ) → f (k + j) ≡ rest j) → dropped k (foundIn n f) ≡ false
@@ -68,8 +62,8 @@ kept-found (suc k) m zero f rest e same d = absurd (omega arith)
 kept-found (suc k) m (suc n) f rest e same d =
     go (kept-found k m n (λ j. f (suc j)) rest (omega arith) (λ j. ap f (omega arith) ∙ same j)) (f 0) d
   where
-    go : (dropped k (foundIn n (λ j. f (suc j))) ≡ false → foundIn n (λ j. f (suc j)) ≡ shift k (foundIn m rest)) → (b : Bool) → dropped (suc k) (cond b (from-frame 0) (further (foundIn n (λ j. f (suc j))))) ≡ false
-        → cond b (from-frame 0) (further (foundIn n (λ j. f (suc j)))) ≡ shift (suc k) (foundIn m rest)
+    go : (dropped k (foundIn n (λ j. f (suc j))) ≡ false → foundIn n (λ j. f (suc j)) ≡ shift k (foundIn m rest)) → (b : Bool) → dropped (suc k) (cond b (in-frame 0) (further (foundIn n (λ j. f (suc j))))) ≡ false
+        → cond b (in-frame 0) (further (foundIn n (λ j. f (suc j)))) ≡ shift (suc k) (foundIn m rest)
     go ih true d = absurd (false≢true (sym d ∙ lt-ltb 0 (suc k) (omega arith)))
     go ih false d =
         ap further (ih (sym (further-dropped k (foundIn n (λ j. f (suc j)))) ∙ d))
@@ -86,7 +80,7 @@ kept-version (suc k) m (suc n) row rest other e same d =
     go (kept-version k m n (λ j. row (suc j)) rest other (omega arith) (λ j. ap row (omega arith) ∙ same j)) (row 0) d
   where
     go : (dropped k (foundIn n (λ j. isWritten (row (suc j)))) ≡ false → versionIn n (λ j. row (suc j)) other ≡ versionIn m rest other)
-        → (v : Option Line) → dropped (suc k) (cond (isWritten v) (from-frame 0) (further (foundIn n (λ j. isWritten (row (suc j)))))) ≡ false
+        → (v : Option Line) → dropped (suc k) (cond (isWritten v) (in-frame 0) (further (foundIn n (λ j. isWritten (row (suc j)))))) ≡ false
         → Option·getD v (versionIn n (λ j. row (suc j)) other) ≡ versionIn m rest other
     go ih none d = ih (sym (further-dropped k (foundIn n (λ j. isWritten (row (suc j))))) ∙ d)
     go ih (some v) d = absurd (false≢true (sym d ∙ lt-ltb 0 (suc k) (omega arith)))
@@ -103,7 +97,7 @@ pub found-same : (n : ℕ) (f g : ℕ → Bool) → ((j : ℕ) → j < n → f j
 unfolding foundIn
 found-same zero f g same = refl
 found-same (suc n) f g same =
-    ap₂ (λ (b : Bool) (o : Origin). cond b (from-frame 0) (further o)) (same 0 (omega arith))
+    ap₂ (λ (b : Bool) (o : Place). cond b (in-frame 0) (further o)) (same 0 (omega arith))
     (found-same n (λ j. f (suc j)) (λ j. g (suc j)) (λ j b. same (suc j) (omega arith)))
 
 -- A version in CMF is found there.
@@ -121,10 +115,10 @@ unfolding versionIn
 current-version zero row other y h e = absurd (omega arith)
 current-version (suc n) row other y h e = ap (λ (o : Option Line). Option·getD o (versionIn n (λ j. row (suc j)) other)) e
 
-pub current-found : (n : ℕ) (f : ℕ → Bool) → 0 < n → f 0 ≡ true → foundIn n f ≡ from-frame 0
+pub current-found : (n : ℕ) (f : ℕ → Bool) → 0 < n → f 0 ≡ true → foundIn n f ≡ in-frame 0
 unfolding foundIn
 current-found zero f h e = absurd (omega arith)
-current-found (suc n) f h e = ap (λ (t : Bool). cond t (from-frame 0) (further (foundIn n (λ j. f (suc j))))) e
+current-found (suc n) f h e = ap (λ (t : Bool). cond t (in-frame 0) (further (foundIn n (λ j. f (suc j))))) e
 
 -- A search of n frames is one of the m newest, with what the k others give behind it.
 pub split-version : (m k n : ℕ) (row newer : ℕ → Option Line) (other : Line) → n ≡ m + k → ((j : ℕ) → j < m → newer j ≡ row j)
@@ -140,24 +134,23 @@ split-version (suc m) k (suc n) row newer other e same =
     ∙ split-version m k n (λ j. row (suc j)) (λ j. newer (suc j)) other (omega arith) (λ j b. same (suc j) (omega arith)))
 
 -- The m newest frames alone show a version that lies in one of them, and else the archive.
-abbrev pub first : ℕ → Origin → Origin
-first m o = cond (dropped m o) o from-archive
+abbrev pub first : ℕ → Place → Place
+first m o = cond (dropped m o) o in-archive
 
-first-none : (o : Origin) → from-archive ≡ first 0 o
+first-none : (o : Place) → in-archive ≡ first 0 o
 unfolding dropped
-first-none from-cache = refl
-first-none (from-frame j) = sym (ap (λ (b : Bool). cond b (from-frame j) from-archive) (le-ltb j 0 (omega arith)))
-first-none from-archive = refl
+first-none (in-frame j) = sym (ap (λ (b : Bool). cond b (in-frame j) in-archive) (le-ltb j 0 (omega arith)))
+first-none in-archive = refl
 
-first-here : (m : ℕ) → from-frame 0 ≡ first (suc m) (from-frame 0)
+first-here : (m : ℕ) → in-frame 0 ≡ first (suc m) (in-frame 0)
 unfolding dropped
-first-here m = sym (ap (λ (b : Bool). cond b (from-frame 0) from-archive) (lt-ltb 0 (suc m) (omega arith)))
+first-here m = sym (ap (λ (b : Bool). cond b (in-frame 0) in-archive) (lt-ltb 0 (suc m) (omega arith)))
 
-first-further : (m : ℕ) (o : Origin) → further (first m o) ≡ first (suc m) (further o)
+first-further : (m : ℕ) (o : Place) → further (first m o) ≡ first (suc m) (further o)
 unfolding further
-first-further m o = go (dropped m o) ∙ ap (λ (b : Bool). cond b (further o) from-archive) (sym (further-dropped m o))
+first-further m o = go (dropped m o) ∙ ap (λ (b : Bool). cond b (further o) in-archive) (sym (further-dropped m o))
   where
-    go : (b : Bool) → further (cond b o from-archive) ≡ cond b (further o) from-archive
+    go : (b : Bool) → further (cond b o in-archive) ≡ cond b (further o) in-archive
     go true = refl
     go false = refl
 
@@ -166,10 +159,10 @@ unfolding foundIn
 first-found zero k n f newer e same = first-none (foundIn n f)
 first-found (suc m) k zero f newer e same = absurd (omega arith)
 first-found (suc m) k (suc n) f newer e same =
-    ap₂ (λ (b : Bool) (o : Origin). cond b (from-frame 0) (further o)) (same 0 (omega arith))
+    ap₂ (λ (b : Bool) (o : Place). cond b (in-frame 0) (further o)) (same 0 (omega arith))
     (first-found m k n (λ j. f (suc j)) (λ j. newer (suc j)) (omega arith) (λ j b. same (suc j) (omega arith)))
     ∙ go (f 0)
   where
-    go : (b : Bool) → cond b (from-frame 0) (further (first m (foundIn n (λ j. f (suc j))))) ≡ first (suc m) (cond b (from-frame 0) (further (foundIn n (λ j. f (suc j)))))
+    go : (b : Bool) → cond b (in-frame 0) (further (first m (foundIn n (λ j. f (suc j))))) ≡ first (suc m) (cond b (in-frame 0) (further (foundIn n (λ j. f (suc j)))))
     go true = first-here m
     go false = first-further m (foundIn n (λ j. f (suc j)))

@@ -17,14 +17,14 @@ use Rattle.rules.specs.Line.{Line, zeros}
 use Rattle.rules.specs.Call.{refused}
 use Rattle.rules.specs.Call.Answer.{outcome}
 use Rattle.rules.specs.Call.Call.{RESET}
-use Rattle.rules.specs.Refusal.{unless, askedRefusal, refusal, noPage}
+use Rattle.rules.specs.Refusal.{unless, askedRefusal, refusal}
+use Rattle.rules.specs.Registers.{atStart}
 use Rattle.rules.specs.Figure2.{initial}
 use Rattle.rules.specs.Figure3.{WellCache}
-use Rattle.rules.specs.Promise.{Promise, Started, figureOf, factsOf, target}
+use Rattle.rules.specs.Promise.{Promise, Started, factsOf, target}
 use Rattle.rules.proofs.Settings.{Good, within-good, good-within}
 use Rattle.rules.proofs.Chain.{passed}
-use Rattle.rules.proofs.Circle.{live-start}
-use Rattle.rules.proofs.Promise.{facts-fit}
+use Rattle.rules.proofs.Registers.{facts-fit, live-start}
 use Rattle.rules.proofs.WellSteps.{initial-well}
 use Rattle.rules.proofs.WellCache.{empty-well}
 use Rattle.frames.specs.Lists.{rewrite}
@@ -84,8 +84,8 @@ module _ (asked : Settings) (m : Storage) (good : Good asked) (long : Long (elem
       (set (m .memory .history) 0 65535)
 
   live : liveIn (begun .state) ≡ 1
-  unfolding freshState
-  live = live-start (asked .frames) (omega (arith, good .frames-from))
+  unfolding freshState atStart
+  live = live-start asked (omega (arith, good .frames-from))
 
   -- no line has its written bit
   some-lines : 0 < lines
@@ -134,8 +134,8 @@ module _ (asked : Settings) (m : Storage) (good : Good asked) (long : Long (elem
       go (yes b) = ap (λ (t : Bool). cond t (archiveLine (zeroed lines (m .memory .archive)) l) zeros) (lt-ltb l lines b) ∙ zero-line lines (m .memory .archive) l b archive-long
       go (no b) = ap (λ (t : Bool). cond t (archiveLine (zeroed lines (m .memory .archive)) l) zeros) (le-ltb l lines (omega arith))
 
-  begun-figure : figureOf store begun ≡ initial
-  unfolding figureOf initial freshState
+  begun-figure : store .figure begun ≡ initial
+  unfolding initial freshState
   begun-figure =
       ap₂ (λ (n : ℕ) (p : (ℕ → ℕ → Option Line) × (ℕ → Line)). record { live = n; frame = p .0; archive = p .1 }) live
       (ap₂ (λ (f : ℕ → ℕ → Option Line) (g : ℕ → Line). (f, g)) (fun-ext (λ j. fun-ext (λ l. begun-frame j l))) (fun-ext (λ l. begun-archive l)))
@@ -148,10 +148,10 @@ module _ (asked : Settings) (m : Storage) (good : Good asked) (long : Long (elem
       (ap₂ (λ (g h : ℕ). (g, h)) (rewrite-length _ (m .memory .groups) (asked .frames / 16 * lines)) (length-set (m .memory .history) 0 65535))
 
   begun-well : WellStore begun
-  unfolding freshState
+  unfolding freshState atStart
   begun-well =
       record {
-        fits = facts-fit asked 0 0 (record { limits = good-within asked good; cmf-below = some-frames; omf-below = some-frames });
+        fits = facts-fit (atStart asked) (record { limits = good-within asked good; cmf-below = some-frames; omf-below = some-frames });
         long = subst (λ (p : Pieces). enough asked p ≡ true) (sym lengths) long-enough;
         bits = subst (WellBits (writtenIn begun) 0) (sym live) (started-well lines (asked .frames) (m .memory .groups) (m .memory .history) some-lines (good .lines-to) (good .frames-by) some-frames few-frames groups-long history-long);
         pages = started-confirmed lines (asked .frames) (m .memory .groups) (m .memory .history) some-lines (good .lines-to) (good .frames-by) some-frames few-frames groups-long history-long (asked .pages) (λ y. getD (m .memory .table) y 0) (λ p. getD (m .memory .owners) p 0);
@@ -163,9 +163,9 @@ module _ (asked : Settings) (m : Storage) (good : Good asked) (long : Long (elem
       }
 
   begun-started : Started store asked (outcome 0) begun
-  unfolding freshState
+  unfolding freshState atStart
   begun-started =
-      record { answer = refl; well = begun-well; settings = refl; cmf = refl; omf = refl; figure = begun-figure; cache = empty-shown }
+      record { answer = refl; well = begun-well; registers = refl; figure = begun-figure; cache = empty-shown }
 
 -- What the tests of a RESET leave, and what the layers ask.
 module _ (lines frames pages a : ℕ) (p : Pieces) (told : a ≡ askedRefusal p (settingsOf lines frames pages)) (z : a ≡ 0) where
@@ -197,7 +197,7 @@ module _ (x : Storage) (lines frames pages a : ℕ) (told : a ≡ askedRefusal (
   asked = settingsOf lines frames pages
 
   pub reset-refused : a ≢ 0 → Promise store (RESET asked) x (outcome a) x
-  unfolding refusal factsOf refused noPage
+  unfolding refusal factsOf refused
   reset-refused z = turned-down x (RESET asked) a told z
 
   module _ (z : a ≡ 0) where
@@ -208,7 +208,7 @@ module _ (x : Storage) (lines frames pages a : ℕ) (told : a ≡ askedRefusal (
     long-asked = reset-long lines frames pages a (lengthsIn (x .memory)) told z
 
     promised : Promise store (RESET asked) x (outcome 0) (begun asked x good-asked long-asked)
-    unfolding refusal factsOf noPage target elements zeroed blanked
+    unfolding refusal factsOf refused target elements zeroed blanked
     promised =
         let-through x (RESET asked) a told z refl (begun-started asked x good-asked long-asked) (lengths asked x good-asked long-asked)
         (ap₂ (λ (a : List ℕ) (p : List ℕ × List ℕ). memoryOf a (drop (128 * pages) (x .memory .pool)) (p .0) (drop (frames * (lines / 8)) (x .memory .table)) (drop pages (x .memory .owners)) (p .1))

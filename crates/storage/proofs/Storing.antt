@@ -10,10 +10,13 @@ use Rattle.rules.specs.Settings.{elements}
 use Rattle.rules.specs.Line.{Line, lineOf, offsetOf, edit}
 use Rattle.rules.specs.Call.{refused}
 use Rattle.rules.specs.Call.Answer.{outcome}
-use Rattle.rules.specs.Call.Call.{WRITE}
-use Rattle.rules.specs.Refusal.{unless, writeRefusal, stateRefusal, refusal, noPage}
+use Rattle.rules.specs.Call.Change.{WRITE}
+use Rattle.rules.specs.Call.Act.{CHANGE}
+use Rattle.rules.specs.Call.Call.{ON}
+use Rattle.rules.specs.Refusal.{unless, writeRefusal, stateRefusal, refusal, actRefusal, lacks}
+use Rattle.rules.specs.Figure2.{registersStep}
 use Rattle.rules.specs.Promise.{Promise, Followed, factsOf, target}
-use Rattle.rules.proofs.Promise.{refuse, accept}
+use Rattle.rules.proofs.Promise.{lacking-own, refuse, accept}
 use Rattle.rules.proofs.Chain.{Placed}
 use Rattle.rules.proofs.Width.{line-below}
 use Rattle.frames.specs.Circle.{frameAt}
@@ -32,7 +35,7 @@ use Rattle.versions.specs.declared.Version.{Version}
 use Rattle.versions.specs.Newest.{entryPlace, latestOf}
 use Rattle.versions.specs.Steps.{pageFor, hintFor}
 use Rattle.versions.proofs.Finding.{entry-within}
-use Rattle.storage.specs.Storage.{Storage, stateOf, Memory, memoryOf, settingsIn, lengthsIn, pastIn, liveIn, writtenIn, WellStore, store}
+use Rattle.storage.specs.Storage.{Storage, stateOf, Memory, memoryOf, settingsIn, registersIn, lengthsIn, pastIn, liveIn, writtenIn, WellStore, store}
 use Rattle.storage.specs.Steps.{hintedRegisters, usedState, contentAfter, currentPlace, WroteTo, Put, AsksWrite}
 use Rattle.storage.specs.Admit.{admitted}
 use Rattle.storage.proofs.Admitting.{Room, room-lent, room-newest}
@@ -69,30 +72,30 @@ module _ (x : Storage) (wd a v r : ℕ) (told : r ≡ admittedIn x (writeRefusal
   choice hint = pageFor (writtenIn x) (x .state .registers .pages) hint (x .memory .table) (x .memory .owners) (x .state .registers .cmf) l
 
   chain : (rest : ℕ) → r ≢ 0 → r ≡ admittedIn x (writeRefusal (settingsIn (x .state)) wd a v rest)
-  chain rest z = write-stands (settingsIn (x .state)) (x .state .registers .cmf) (x .state .registers .omf) (lengthsIn (x .memory)) wd a v r told z rest
+  chain rest z = write-stands (registersIn (x .state)) (lengthsIn (x .memory)) wd a v r told z rest
 
-  pub write-refused : r ≢ 0 → Promise store (WRITE wd a v) x (outcome r) x
-  unfolding refusal stateRefusal factsOf admitted refused
-  write-refused z = turned-down x (WRITE wd a v) r (chain _ z) z
+  pub write-refused : r ≢ 0 → Promise store (ON (CHANGE (WRITE wd a v))) x (outcome r) x
+  unfolding refusal actRefusal stateRefusal factsOf admitted refused
+  write-refused z = turned-down x (ON (CHANGE (WRITE wd a v))) r (chain _ z) z
 
   module _ (z : r ≡ 0) where
     decides : (rest : ℕ) → rest ≡ admittedIn x (writeRefusal (settingsIn (x .state)) wd a v rest)
-    decides = write-decides (settingsIn (x .state)) (x .state .registers .cmf) (x .state .registers .omf) (lengthsIn (x .memory)) wd a v r told z
+    decides = write-decides (registersIn (x .state)) (lengthsIn (x .memory)) wd a v r told z
 
     placed-there : Placed (settingsIn (x .state)) wd a
-    placed-there = write-room (settingsIn (x .state)) (x .state .registers .cmf) (x .state .registers .omf) (lengthsIn (x .memory)) r wd a v told z .1
+    placed-there = write-room (registersIn (x .state)) (lengthsIn (x .memory)) r wd a v told z .1
 
     below : l < x .state .registers .lines
     below = line-below placed-there
 
-    room : Room (settingsIn (x .state)) (x .state .registers .cmf) (x .state .registers .omf) (lengthsIn (x .memory))
-    room = write-room (settingsIn (x .state)) (x .state .registers .cmf) (x .state .registers .omf) (lengthsIn (x .memory)) r wd a v told z .0 .room
+    room : Room (registersIn (x .state)) (lengthsIn (x .memory))
+    room = write-room (registersIn (x .state)) (lengthsIn (x .memory)) r wd a v told z .0 .room
 
     -- what the layers ask
     pub asks-write : (live page : ℕ) → live ≡ liveIn (x .state) → choice (x .state .registers .hint) ≡ At page → AsksWrite x wd a live page
     unfolding elements
     asks-write live page e found =
-        let newest = room-newest (settingsIn (x .state)) (x .state .registers .cmf) (x .state .registers .omf) (length (x .memory .owners)) (x .memory .archive) (x .memory .pool) (x .memory .groups) (x .memory .table) (x .memory .history) room live l e below in
+        let newest = room-newest (registersIn (x .state)) (length (x .memory .owners)) (x .memory .archive) (x .memory .pool) (x .memory .groups) (x .memory .table) (x .memory .history) room live l e below in
         record {
           newest = newest;
           put =
@@ -106,16 +109,16 @@ module _ (x : Storage) (wd a v r : ℕ) (told : r ≡ admittedIn x (writeRefusal
                 pool-long = room .long .pool;
                 owners-long = room .long .owners;
               };
-          bytes = write-room (settingsIn (x .state)) (x .state .registers .cmf) (x .state .registers .omf) (lengthsIn (x .memory)) r wd a v told z .0 .bytes;
+          bytes = write-room (registersIn (x .state)) (lengthsIn (x .memory)) r wd a v told z .0 .bytes;
           cmf-below = room .fits .cmf-below;
         }
 
     -- 13
-    pub write-full : choice (x .state .registers .hint) ≡ Nothing → Promise store (WRITE wd a v) x (outcome 13) x
-    unfolding refusal stateRefusal factsOf admitted refused noPage unless
+    pub write-full : choice (x .state .registers .hint) ≡ Nothing → Promise store (ON (CHANGE (WRITE wd a v))) x (outcome 13) x
+    unfolding refusal actRefusal stateRefusal factsOf admitted refused unless lacks
     write-full e =
-        subst (λ (n : ℕ). Promise store (WRITE wd a v) x (outcome n) x) (sym (decides 13))
-        (refuse store (WRITE wd a v) x true (λ q. sym (none-chosen x q l below (x .state .registers .hint) e)) (λ d. let n : _≡_ {A = ℕ} 13 0 = decides 13 ∙ d in absurd (omega arith)))
+        subst (λ (n : ℕ). Promise store (ON (CHANGE (WRITE wd a v))) x (outcome n) x) (sym (decides 13))
+        (refuse store (ON (CHANGE (WRITE wd a v))) x (λ c. true) (λ q. lacking-own store x (CHANGE (WRITE wd a v)) true (sym (none-chosen x q l below (x .state .registers .hint) e))) (λ d. let n : _≡_ {A = ℕ} 13 0 = decides 13 ∙ d in absurd (omega arith)))
 
     module _ (picked : Found) (picked-is : picked ≡ choice (x .state .registers .hint)) (page : ℕ) (at-page : picked ≡ At page) (live : ℕ) (live-is : live ≡ liveIn (x .state)) (cache : Cache) (memory : Memory) (put : Put x wd a v live page cache memory)
         (next : ℕ) (next-told : next ≡ hintFor (writtenIn x) (x .state .registers .hint) (x .state .registers .cmf) l picked) where
@@ -172,7 +175,7 @@ module _ (x : Storage) (wd a v r : ℕ) (told : r ≡ admittedIn x (writeRefusal
         where
           lent : Lent (writtenIn x)
           lent =
-              room-lent (settingsIn (x .state)) (x .state .registers .cmf) (x .state .registers .omf) (length (x .memory .archive)) (length (x .memory .pool)) (length (x .memory .table)) (length (x .memory .owners)) (x .memory .groups) (x .memory .history) room
+              room-lent (registersIn (x .state)) (length (x .memory .archive)) (length (x .memory .pool)) (length (x .memory .table)) (length (x .memory .owners)) (x .memory .groups) (x .memory .history) room
 
       -- What it is on well-formed storage.
       module _ (q : WellStore x) where
@@ -207,13 +210,14 @@ module _ (x : Storage) (wd a v r : ℕ) (told : r ≡ admittedIn x (writeRefusal
         pub write-left : WroteTo x wd a v t
         write-left = record { page = page; page-below = page-few; page-own = c .own; page-free = c .unheld; state = same-state; memory = same-memory }
 
-        followed : Followed store (WRITE wd a v) x (outcome 0) t
+        followed : Followed store (CHANGE (WRITE wd a v)) x (outcome 0) t
         unfolding contentAfter
         followed =
-            subst (λ (y : Storage). Followed store (WRITE wd a v) x (outcome 0) y) (sym (λ i. record { state = same-state i; memory = same-memory i }))
+            subst (λ (y : Storage). Followed store (CHANGE (WRITE wd a v)) x (outcome 0) y) (sym (λ i. record { state = same-state i; memory = same-memory i }))
             (stored-followed x q wd a v placed-there below behind page c)
 
-      pub write-done : Promise store (WRITE wd a v) x (outcome 0) t
-      unfolding refusal stateRefusal factsOf admitted noPage unless target
+      pub write-done : Promise store (ON (CHANGE (WRITE wd a v))) x (outcome 0) t
+      unfolding refusal actRefusal stateRefusal factsOf admitted refused unless target lacks registersStep
       write-done =
-          accept store (WRITE wd a v) x false (λ q. sym (c q .free)) (sym (decides 0)) refl followed lengths past
+          accept store (ON (CHANGE (WRITE wd a v))) x (λ c. false) (λ q. lacking-own store x (CHANGE (WRITE wd a v)) false (sym (c q .free))) (sym (decides 0)) refl
+          (record { registers = refl; followed = followed }) lengths past

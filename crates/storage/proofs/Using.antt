@@ -8,14 +8,17 @@ use native.Mathlib.Omega.{arith}
 use lib.ListN.{length, take, drop, set}
 use Rattle.rules.specs.Line.{Line, lineOf, offsetOf, valueAt}
 use Rattle.rules.specs.Call.{Answer, refused}
-use Rattle.rules.specs.Call.Origin.{from-cache, from-archive}
+use Rattle.rules.specs.Call.Place.{in-archive}
+use Rattle.rules.specs.Call.Origin.{from-cache, from}
 use Rattle.rules.specs.Call.Answer.{reading, lending}
-use Rattle.rules.specs.Call.Call.{READ, LINE}
+use Rattle.rules.specs.Call.Look.{LINE}
+use Rattle.rules.specs.Call.Act.{READ, LOOK}
+use Rattle.rules.specs.Call.Call.{ON}
 use Rattle.rules.specs.Seen.{accepted}
-use Rattle.rules.specs.Refusal.{placeRefusal, lineRefusal, stateRefusal, refusal, noPage}
-use Rattle.rules.specs.Figure2.{figureStep, cmfStep, omfStep, figureSeen, foundIn, isWritten, mrv}
+use Rattle.rules.specs.Refusal.{placeRefusal, lineRefusal, stateRefusal, refusal, actRefusal}
+use Rattle.rules.specs.Figure2.{figureStep, registersStep, figureSeen, foundIn, isWritten, mrv}
 use Rattle.rules.specs.Figure3.{WellCache, holds, use-line, cacheStep}
-use Rattle.rules.specs.Promise.{Promise, Followed, figureOf, seenOf, factsOf, target}
+use Rattle.rules.specs.Promise.{Promise, Followed, seenOf, factsOf, target}
 use Rattle.rules.proofs.Chain.{Placed, place-passed}
 use Rattle.rules.proofs.Width.{line-below}
 use Rattle.rules.proofs.WellCache.{use-well}
@@ -37,7 +40,7 @@ use Rattle.versions.specs.declared.Origin.the-variants as origin
 use Rattle.versions.specs.Newest.{pageOf, spotOf, contentOf, originOf, newestOf, latestOf}
 use Rattle.versions.proofs.Finding.{spot-below, latest-hit, latest-miss}
 use Rattle.storage.specs.declared.State.{State}
-use Rattle.storage.specs.Storage.{Storage, stateOf, settingsIn, lengthsIn, liveIn, writtenIn, frameIn, archiveIn, versionAt, latestIn, newestFrame, Recent, WellStore, store}
+use Rattle.storage.specs.Storage.{Storage, stateOf, settingsIn, registersIn, lengthsIn, liveIn, writtenIn, frameIn, archiveIn, versionAt, latestIn, newestFrame, Recent, WellStore, store}
 use Rattle.storage.specs.Steps.{hintedRegisters, usedState, readState}
 use Rattle.storage.specs.Admit.{admitted}
 use Rattle.storage.proofs.Chains.{admitted-rest, line-room}
@@ -87,29 +90,26 @@ module _ (x : Storage) (w a : ℕ) where
   l = lineOf a
 
   abbrev due : Answer
-  due = reading 0 (valueAt w (offsetOf a) (latestIn x l)) (cond (holds (shown (x .state .cache)) l) from-cache (seenOf store x .origin l))
+  due = reading 0 (valueAt w (offsetOf a) (latestIn x l)) (cond (holds (shown (x .state .cache)) l) from-cache (from (seenOf store x .origin l)))
 
   read-followed : (q : WellStore x) (b : l < x .state .registers .lines) → Followed store (READ w a) x due (used x q l b)
-  unfolding accepted cmfStep omfStep figureStep cacheStep readState usedState frameIn archiveIn versionAt placeAt figureOf seenOf figureSeen mrv latestIn pageOf
+  unfolding accepted figureStep cacheStep readState usedState frameIn archiveIn versionAt placeAt seenOf figureSeen mrv latestIn pageOf
   read-followed q b =
       record {
         answer = refl;
         well = used-well x q l b;
-        settings = refl;
-        cmf = refl;
-        omf = refl;
         figure = refl;
         cache = used-cache x q l b;
       }
 
   module _ (r : ℕ) (told : r ≡ admittedIn x (placeRefusal (settingsIn (x .state)) w a 0)) where
-    pub read-refused : r ≢ 0 → Promise store (READ w a) x (reading r 0 from-archive) x
-    unfolding refusal stateRefusal factsOf admitted refused noPage
-    read-refused z = turned-down x (READ w a) r told z
+    pub read-refused : r ≢ 0 → Promise store (ON (READ w a)) x (reading r 0 (from in-archive)) x
+    unfolding refusal actRefusal stateRefusal factsOf admitted refused
+    read-refused z = turned-down x (ON (READ w a)) r told z
 
     module _ (z : r ≡ 0) where
       pub place-known : Placed (settingsIn (x .state)) w a
-      place-known = place-passed (settingsIn (x .state)) w a 0 (admitted-rest (settingsIn (x .state)) (x .state .registers .cmf) (x .state .registers .omf) (lengthsIn (x .memory)) r _ told z) .0
+      place-known = place-passed (settingsIn (x .state)) w a 0 (admitted-rest (registersIn (x .state)) (lengthsIn (x .memory)) r _ told z) .0
 
       -- in the form in which the code has the version, the value, the cache and the state
       module _ (live : ℕ) (live-is : live ≡ liveIn (x .state)) (v : Version)
@@ -120,7 +120,7 @@ module _ (x : Storage) (w a : ℕ) where
           b : l < x .state .registers .lines
           b = line-below place-known
 
-          abbrev facts : (v .content ≡ latestIn x l) × (v .frame ≡ newestFrame x l) × (originOf (v .origin) ≡ cond (holds (shown (x .state .cache)) l) from-cache (seenOf store x .origin l))
+          abbrev facts : (v .content ≡ latestIn x l) × (v .frame ≡ newestFrame x l) × (originOf (v .origin) ≡ cond (holds (shown (x .state .cache)) l) from-cache (from (seenOf store x .origin l)))
           facts =
               latest-told x q l b v
               (found ∙ ap (λ (m : ℕ). latestOf (x .state .cache) (writtenIn x) (x .state .registers .pages) m (x .memory .archive) (x .memory .pool) (x .memory .table) l) live-is)
@@ -138,9 +138,13 @@ module _ (x : Storage) (w a : ℕ) where
               subst (λ (o : Answer). Followed store (READ w a) x o (record { state = s; memory = x .memory })) (sym read-answer)
               (subst (λ (t : State). Followed store (READ w a) x due (record { state = t; memory = x .memory })) (sym read-state) (read-followed q b))
 
-        read-told : Promise store (READ w a) x (reading 0 value (originOf (v .origin))) (record { state = s; memory = x .memory })
-        unfolding refusal stateRefusal factsOf admitted noPage target
-        read-told = let-through x (READ w a) r told z (_, _, refl) read-step refl refl
+        read-registers : store .registers (record { state = s; memory = x .memory }) ≡ store .registers x
+        unfolding usedState
+        read-registers = ap (λ (y : State). store .registers (record { state = y; memory = x .memory })) is
+
+        read-told : Promise store (ON (READ w a)) x (reading 0 value (originOf (v .origin))) (record { state = s; memory = x .memory })
+        unfolding refusal actRefusal stateRefusal factsOf admitted refused registersStep target
+        read-told = let-through x (ON (READ w a)) r told z refl (record { registers = read-registers; followed = read-step }) refl refl
 
       -- What the code has of it: an entry of the cache that holds the line,
       module _ (live : ℕ) (live-is : live ≡ liveIn (x .state)) (f : Entry) (f-is : f ≡ found (x .state .cache) l) where
@@ -165,7 +169,7 @@ module _ (x : Storage) (w a : ℕ) where
               used-done (x .state) (x .state .registers .hint) l (frameOf c e) content _
               (hit-placed c l e (sym f-is ∙ at-entry) last last-is ∙ ap (placed c l (frameOf c e)) (sym content-is))
 
-          pub hit-told : Promise store (READ w a) x (reading 0 value (originOf origin.Cache)) (record { state = after; memory = x .memory })
+          pub hit-told : Promise store (ON (READ w a)) x (reading 0 value (originOf origin.Cache)) (record { state = after; memory = x .memory })
           hit-told = read-told live live-is held held-is value valued after after-is
 
           pub hit-state : WellStore x → after ≡ readState x l
@@ -183,7 +187,7 @@ module _ (x : Storage) (w a : ℕ) where
           loaded-is : stateOf (x .state .registers) k ≡ usedState (x .state) (x .state .registers .hint) (placed c l (v .frame) (v .content))
           loaded-is = used-done (x .state) (x .state .registers .hint) l (v .frame) (v .content) k k-is
 
-          pub miss-told : Promise store (READ w a) x (reading 0 value (originOf (v .origin))) (record { state = stateOf (x .state .registers) k; memory = x .memory })
+          pub miss-told : Promise store (ON (READ w a)) x (reading 0 value (originOf (v .origin))) (record { state = stateOf (x .state .registers) k; memory = x .memory })
           miss-told = read-told live live-is v found-is value valued (stateOf (x .state .registers) k) loaded-is
 
           pub miss-state : WellStore x → stateOf (x .state .registers) k ≡ readState x l
@@ -191,28 +195,19 @@ module _ (x : Storage) (w a : ℕ) where
 
 -- LINE lends the bytes where they stand.
 module _ (x : Storage) (l r : ℕ) (told : r ≡ admittedIn x (lineRefusal (settingsIn (x .state)) l)) where
-  pub line-refused : r ≢ 0 → Promise store (LINE l) x (lending []) x
-  unfolding refusal stateRefusal factsOf admitted refused noPage
-  line-refused z = turned-down x (LINE l) r told z
+  pub line-refused : r ≢ 0 → Promise store (ON (LOOK (LINE l))) x (lending []) x
+  unfolding refusal actRefusal stateRefusal factsOf admitted refused
+  line-refused z = turned-down x (ON (LOOK (LINE l))) r told z
 
   module _ (z : r ≡ 0) (live : ℕ) (live-is : live ≡ liveIn (x .state)) (found : Found) (found-is : found ≡ newestFrom (writtenIn x) l (live - 1))
       (spot : Spot) (spot-is : spot ≡ spotOf (x .state .registers .lines) (x .state .registers .frames) (x .state .registers .omf) (x .state .registers .pages) (x .memory .table) l found) where
-    followed : (bytes : List ℕ) → bytes ≡ contentOf (x .memory .archive) (x .memory .pool) l spot → WellStore x → Followed store (LINE l) x (lending bytes) x
-    unfolding accepted figureStep cmfStep omfStep cacheStep seenOf figureSeen figureOf mrv latestIn
-    followed bytes e q =
-        record {
-          answer = ap lending (e ∙ (ap (contentOf (x .memory .archive) (x .memory .pool) l) (spot-is ∙ ap (spotOf (x .state .registers .lines) (x .state .registers .frames) (x .state .registers .omf) (x .state .registers .pages) (x .memory .table) l) (found-is ∙ ap (λ (m : ℕ). newestFrom (writtenIn x) l (m - 1)) live-is)) ∙ content-latest x (well-findable x q) l (line-room (settingsIn (x .state)) (x .state .registers .cmf) (x .state .registers .omf) (lengthsIn (x .memory)) r l told z .line-below)));
-          well = q;
-          settings = refl;
-          cmf = refl;
-          omf = refl;
-          figure = refl;
-          cache = refl;
-        }
+    content-is : (bytes : List ℕ) → bytes ≡ contentOf (x .memory .archive) (x .memory .pool) l spot → WellStore x → lending bytes ≡ accepted (seenOf store x) (holds (store .cache x)) (LOOK (LINE l))
+    unfolding accepted seenOf figureSeen mrv latestIn
+    content-is bytes e q = ap lending (e ∙ (ap (contentOf (x .memory .archive) (x .memory .pool) l) (spot-is ∙ ap (spotOf (x .state .registers .lines) (x .state .registers .frames) (x .state .registers .omf) (x .state .registers .pages) (x .memory .table) l) (found-is ∙ ap (λ (m : ℕ). newestFrom (writtenIn x) l (m - 1)) live-is)) ∙ content-latest x (well-findable x q) l (line-room (registersIn (x .state)) (lengthsIn (x .memory)) r l told z .line-below)))
 
-    told-so : (bytes : List ℕ) → bytes ≡ contentOf (x .memory .archive) (x .memory .pool) l spot → Promise store (LINE l) x (lending bytes) x
-    unfolding refusal stateRefusal factsOf admitted noPage
-    told-so bytes e = let-through x (LINE l) r told z (_, refl) (record { kept = refl; followed = followed bytes e }) refl refl
+    told-so : (bytes : List ℕ) → bytes ≡ contentOf (x .memory .archive) (x .memory .pool) l spot → Promise store (ON (LOOK (LINE l))) x (lending bytes) x
+    unfolding refusal actRefusal stateRefusal factsOf admitted refused
+    told-so bytes e = let-through x (ON (LOOK (LINE l))) r told z refl (record { kept = refl; answer = content-is bytes e }) refl refl
 
     -- a part of the pool or of the archive, by its two ends
     whole : (at : ℕ) (xs : List ℕ) → take (at + 16 - at) (drop at xs) ≡ lineAt xs at
@@ -222,11 +217,11 @@ module _ (x : Storage) (l r : ℕ) (told : r ≡ admittedIn x (lineRefusal (sett
         ap (λ (k : ℕ). take k (drop at xs)) n
 
     pub line-in-page : (p : ℕ) → spot ≡ Page p
-        → Promise store (LINE l) x (lending (take (128 * p + 16 * (l % 8) + 16 - (128 * p + 16 * (l % 8))) (drop (128 * p + 16 * (l % 8)) (x .memory .pool)))) x
+        → Promise store (ON (LOOK (LINE l))) x (lending (take (128 * p + 16 * (l % 8) + 16 - (128 * p + 16 * (l % 8))) (drop (128 * p + 16 * (l % 8)) (x .memory .pool)))) x
     unfolding contentOf
     line-in-page p e = told-so _ (whole (128 * p + 16 * (l % 8)) (x .memory .pool) ∙ sym (ap (contentOf (x .memory .archive) (x .memory .pool) l) e))
 
-    pub line-in-archive : spot ≡ Archive → Promise store (LINE l) x (lending (take (16 * l + 16 - 16 * l) (drop (16 * l) (x .memory .archive)))) x
+    pub line-in-archive : spot ≡ Archive → Promise store (ON (LOOK (LINE l))) x (lending (take (16 * l + 16 - 16 * l) (drop (16 * l) (x .memory .archive)))) x
     unfolding contentOf
     line-in-archive e = told-so _ (whole (16 * l) (x .memory .archive) ∙ sym (ap (contentOf (x .memory .archive) (x .memory .pool) l) e))
 

@@ -13,11 +13,13 @@ use lib.Seq.{getD-set-same, getD-set-other}
 use Rattle.rules.specs.Settings.{Pieces, elements, enough}
 use Rattle.rules.specs.Line.{Line, lineOf, offsetOf, edit}
 use Rattle.rules.specs.Call.Answer.{outcome}
-use Rattle.rules.specs.Call.Call.{WRITE}
+use Rattle.rules.specs.Call.Change.{WRITE}
+use Rattle.rules.specs.Call.Act.{CHANGE}
+use Rattle.rules.specs.Call.Call.{ON}
 use Rattle.rules.specs.Seen.{accepted}
-use Rattle.rules.specs.Figure2.{versionIn, foundIn, isWritten, mrv, written, figureStep, cmfStep, omfStep, figureSeen}
+use Rattle.rules.specs.Figure2.{versionIn, foundIn, isWritten, mrv, written, figureStep, figureSeen}
 use Rattle.rules.specs.Figure3.{WellCache, use-line, cacheStep}
-use Rattle.rules.specs.Promise.{Followed, WellFigure, figureOf, seenOf}
+use Rattle.rules.specs.Promise.{Followed, WellFigure, seenOf}
 use Rattle.rules.proofs.Chain.{Placed}
 use Rattle.rules.proofs.Width.{widths, in-line}
 use Rattle.rules.proofs.Line.{length-edit}
@@ -200,8 +202,8 @@ module _ (x : Storage) (q : WellStore x) (wd a v : ℕ) (p : Placed (settingsIn 
         newest n j h s = omega arith
 
     -- Figure 2's WRITE
-    stored-frame : (j m : ℕ) → frameIn stored j m ≡ written wd a v (figureOf store x) j m
-    unfolding written figureOf mrv latestIn
+    stored-frame : (j m : ℕ) → frameIn stored j m ≡ written wd a v (store .figure x) j m
+    unfolding written mrv latestIn
     stored-frame zero m = go (ℕ-discrete m l)
       where
         go : Dec (m ≡ l) → frameIn stored 0 m ≡ cond (eqb l m) (some (edit wd (offsetOf a) v (Option·getD (frameIn x 0 m) (latestIn x m)))) (frameIn x 0 m)
@@ -216,14 +218,14 @@ module _ (x : Storage) (q : WellStore x) (wd a v : ℕ) (p : Placed (settingsIn 
             ∙ sym (ap (λ (t : Bool). cond t (some (edit wd (offsetOf a) v (Option·getD (frameIn x 0 m) (latestIn x m)))) (frameIn x 0 m)) (ne-eqb l m (λ t. s (sym t))))
     stored-frame (suc j) m = other-frame (suc j) m (λ s _. omega arith)
 
-    stored-figure : figureOf store stored ≡ figureStep (WRITE wd a v) (figureOf store x)
-    unfolding figureOf figureStep usedState archiveIn
+    stored-figure : store .figure stored ≡ figureStep (CHANGE (WRITE wd a v)) (store .registers x) (store .figure x)
+    unfolding figureStep usedState archiveIn
     stored-figure =
         ap (λ (f : ℕ → ℕ → Option Line). record { live = n; frame = f; archive = archiveIn x }) (fun-ext (λ j. fun-ext (λ m. stored-frame j m)))
 
-    next-well : WellFigure (settingsIn (x .state)) (figureStep (WRITE wd a v) (figureOf store x))
+    next-well : WellFigure (settingsIn (x .state)) (figureStep (CHANGE (WRITE wd a v)) (store .registers x) (store .figure x))
     unfolding seenOf figureSeen
-    next-well = write-well (settingsIn (x .state)) (figureOf store x) (well-figure x q) wd a v p (c .fewer)
+    next-well = write-well (settingsIn (x .state)) (store .registers x) (store .figure x) (well-figure x q) wd a v p (c .fewer)
 
     -- the most recent version of the line written, and of the others
     own-latest : latestIn stored l ≡ content
@@ -276,15 +278,12 @@ module _ (x : Storage) (q : WellStore x) (wd a v : ℕ) (p : Placed (settingsIn 
           coherent = stored-coherent;
         }
 
-    pub stored-followed : Followed store (WRITE wd a v) x (outcome 0) stored
-    unfolding accepted cmfStep omfStep cacheStep usedState
+    pub stored-followed : Followed store (CHANGE (WRITE wd a v)) x (outcome 0) stored
+    unfolding accepted cacheStep usedState
     stored-followed =
         record {
           answer = refl;
           well = stored-well;
-          settings = refl;
-          cmf = refl;
-          omf = refl;
           figure = stored-figure;
           cache = stored-cache;
         }

@@ -2,9 +2,10 @@
 use Prim.Native.Nat.{ℕ, _/_}
 use mathlib.Core.Bool.{Bool, _&&_}
 use lib.Dec.{leb}
-use Rattle.rules.specs.Settings.{Settings, Pieces, enough}
+use Rattle.rules.specs.Settings.{Pieces, enough}
 use Rattle.rules.specs.declared.Need.{Need}
-use Rattle.rules.specs.Refusal.{unless, stateFits}
+use Rattle.rules.specs.Registers.{Registers, stateFits}
+use Rattle.rules.specs.Refusal.{unless}
 use Rattle.storage.specs.declared.Lengths.{Lengths}
 
 -- The measured lengths as the rules have them.
@@ -42,5 +43,5 @@ covers least lengths =
     && leb (least .history) (lengths .history)
 
 -- 5 and 6, before the rest of a call's chain: the rules' `stateRefusal`, by what the code has.
-unfoldable pub admitted : Settings → (cmf omf : ℕ) → Pieces → (rest : ℕ) → ℕ
-admitted s cmf omf lengths rest = unless (stateFits s cmf omf) 5 (unless (enough s lengths) 6 rest)
+unfoldable pub admitted : Registers → Pieces → (rest : ℕ) → ℕ
+admitted r lengths rest = unless (stateFits r) 5 (unless (enough (r .settings) lengths) 6 rest)

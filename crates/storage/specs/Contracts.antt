@@ -6,10 +6,12 @@ use mathlib.Core.Path.{_≡_}
 use mathlib.Core.List.{List}
 use Rattle.rules.specs.Sizing.{settingsOf}
 use Rattle.rules.specs.Line.{lineOf}
-use Rattle.rules.specs.Call.{Call, Answer, Origin}
+use Rattle.rules.specs.Call.{Look, Answer, Origin}
 use Rattle.rules.specs.Call.Answer.{outcome, reading}
 use Rattle.rules.specs.Promise.{Promise}
-use Rattle.rules.specs.Call.Call.{RESET, WRITE, READ, MARK, ROLLBACK, ADVANCE}
+use Rattle.rules.specs.Call.Change.{WRITE, MARK, ROLLBACK, ADVANCE}
+use Rattle.rules.specs.Call.Act.{READ, LOOK, CHANGE}
+use Rattle.rules.specs.Call.Call.{RESET, ON}
 use Rattle.cache.specs.declared.Cache.{Cache}
 use Rattle.cache.specs.Entries.{cacheOf}
 use Rattle.storage.specs.declared.Registers.{Registers}
@@ -29,34 +31,34 @@ Resets x l f p r t =
 
 -- "WRITE(width, address, value): .. If the line has no written bit in CMF, its most recent version is copied there first; the bit is then set".
 abbrev pub Writes : Storage → (width address value refusal : ℕ) → Storage → Type 0
-Writes x w a v r t = Promise store (WRITE w a v) x (outcome r) t × (r ≡ 0 → WellStore x → WroteTo x w a v t)
+Writes x w a v r t = Promise store (ON (CHANGE (WRITE w a v))) x (outcome r) t × (r ≡ 0 → WellStore x → WroteTo x w a v t)
 
 -- "READ(width, address): the value and its origin."
 abbrev pub Reads : Storage → (width address refusal value : ℕ) → Origin → Storage → Type 0
-Reads x w a r v o t = Promise store (READ w a) x (reading r v o) t × (r ≡ 0 → ReadTo x (lineOf a) (t .state))
+Reads x w a r v o t = Promise store (ON (READ w a)) x (reading r v o) t × (r ≡ 0 → ReadTo x (lineOf a) (t .state))
 
 -- "MARK: opens the next frame, without written bits. Nothing is copied."
 abbrev pub Marks : Storage → (refusal : ℕ) → Storage → Type 0
-Marks x r t = Promise store MARK x (outcome r) t × (r ≡ 0 → t .state ≡ markedState (x .state))
+Marks x r t = Promise store (ON (CHANGE MARK)) x (outcome r) t × (r ≡ 0 → t .state ≡ markedState (x .state))
 
 -- "ROLLBACK(k): drops the k newest frames."
 abbrev pub RollsBack : Storage → (k refusal : ℕ) → Storage → Type 0
 RollsBack x k r t =
-    Promise store (ROLLBACK k) x (outcome r) t
+    Promise store (ON (CHANGE (ROLLBACK k))) x (outcome r) t
     × (r ≡ 0 → RolledTo (x .state) (x .memory .groups) (x .memory .history) k (t .state) (t .memory .groups) (t .memory .history))
 
 -- "ADVANCE(k): folds the k oldest frames into the archive, newest version of each line winning, and frees them."
 abbrev pub Advances : Storage → (k refusal : ℕ) → Storage → Type 0
 Advances x k r t =
-    Promise store (ADVANCE k) x (outcome r) t
+    Promise store (ON (CHANGE (ADVANCE k))) x (outcome r) t
     × (r ≡ 0
     → AdvancedTo (x .state) (x .memory .archive) (x .memory .pool) (x .memory .groups) (x .memory .table) (x .memory .history) k (t .state)
     (t .memory .archive) (t .memory .groups) (t .memory .history))
 
 -- The same of the calls that do not look at the cache, or only at a part of it: whatever the rest holds, which stays. LINE, its companion
 -- and COUNTS look at the registers and the lent memory, and change nothing;
-abbrev pub Looks : Call → Registers → Memory → Answer → Type 0
-Looks c r m a = (cache : Cache) → Promise store c (storageWith r cache m) a (storageWith r cache m)
+abbrev pub Looks : Look → Registers → Memory → Answer → Type 0
+Looks q r m a = (cache : Cache) → Promise store (ON (LOOK q)) (storageWith r cache m) a (storageWith r cache m)
 
 -- MARK changes the registers alone;
 abbrev pub MarksIn : (before : Registers) → Memory → (refusal : ℕ) → (after : Registers) → Type 0

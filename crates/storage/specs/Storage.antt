@@ -8,9 +8,10 @@ use lib.Dec.{ltb}
 use lib.ListN.{length, getD, drop}
 use Rattle.rules.specs.Settings.{Settings, Pieces, enough}
 use Rattle.rules.specs.Line.{Line, IsLine, zeros}
-use Rattle.rules.specs.Call as call
-use Rattle.rules.specs.Call.Origin.{from-cache, from-frame, from-archive}
-use Rattle.rules.specs.Refusal.{liveFrames, stateFits}
+use Rattle.rules.specs.Call.{Place}
+use Rattle.rules.specs.Call.Place.{in-frame, in-archive}
+use Rattle.rules.specs.Registers as rules
+use Rattle.rules.specs.Registers.{liveFrames, stateFits}
 use Rattle.rules.specs.Figure2.{versionIn, foundIn, isWritten}
 use Rattle.rules.specs.Figure3.{WellCache}
 use Rattle.rules.specs.Promise.{Kind}
@@ -59,9 +60,16 @@ settingsAt r = record { lines = r .lines; frames = r .frames; pages = r .pages }
 abbrev pub settingsIn : State → Settings
 settingsIn s = settingsAt (s .registers)
 
--- The live frames, by CMF, OMF and F.
+-- The registers as the rules have them.
+abbrev pub registersOf : Registers → rules.Registers
+registersOf r = record { settings = settingsAt r; cmf = r .cmf; omf = r .omf }
+
+abbrev pub registersIn : State → rules.Registers
+registersIn s = registersOf (s .registers)
+
+-- The live frames, by the registers.
 abbrev pub liveAt : Registers → ℕ
-liveAt r = liveFrames (r .frames) (r .cmf) (r .omf)
+liveAt r = liveFrames (registersOf r)
 
 abbrev pub liveIn : State → ℕ
 liveIn s = liveAt (s .registers)
@@ -117,12 +125,10 @@ archiveIn x l = cond (ltb l (x .state .registers .lines)) (archiveLine (x .memor
 unfoldable pub latestIn : Storage → ℕ → Line
 latestIn x l = versionIn (liveIn (x .state)) (λ j. frameIn x j l) (archiveIn x l)
 
--- The number that the cache has for an origin: the frame's own, or the archive's. (A version is never sought in the cache, so that its case
--- does not matter.)
-unfoldable pub frameNumber : State → call.Origin → ℕ
-frameNumber s from-cache = archiveFrame
-frameNumber s (from-frame j) = frameAt (s .registers .frames) (s .registers .omf) (indexBack s j)
-frameNumber s from-archive = archiveFrame
+-- The number that the cache has for a place: the frame's own, or the archive's.
+unfoldable pub frameNumber : State → Place → ℕ
+frameNumber s (in-frame j) = frameAt (s .registers .frames) (s .registers .omf) (indexBack s j)
+frameNumber s in-archive = archiveFrame
 
 -- The number of the frame that has a line's most recent version.
 unfoldable pub newestFrame : Storage → ℕ → ℕ
@@ -138,7 +144,7 @@ Coherent x = All (Recent x) (x .state .cache)
 -- Well-formedness, which CHECK decides.
 pub record WellStore (x : Storage) : Type 0 where
   -- the state is within its limits and the lent memory is long enough: else every call but RESET is refused
-  pub fits : stateFits (settingsIn (x .state)) (x .state .registers .cmf) (x .state .registers .omf) ≡ true
+  pub fits : stateFits (registersIn (x .state)) ≡ true
   pub long : enough (settingsIn (x .state)) (lengthsIn (x .memory)) ≡ true
   -- every stored bit has a tag that the history knows, and only live frames have effective ones: else a frame could open with lines that
   -- were taken back
@@ -148,29 +154,27 @@ pub record WellStore (x : Storage) : Type 0 where
   pub pages :
       Confirmed (neededAt (writtenIn x)) (placesOf (writtenIn x)) (x .state .registers .pages) (λ y. getD (x .memory .table) y 0)
       (λ p. getD (x .memory .owners) p 0)
-  -- the cache's arrays are as long as their type has it: else an entry could stand outside the 16 sets
-  pub sized : Sized (x .state .cache)
-  -- a version and a line of the archive are 16 bytes, as the type of lent bytes has it: else no history could have written them
-  pub version-line : (j l : ℕ) (v : Line) → frameIn x j l ≡ some v → IsLine v
-  pub archive-line : (l : ℕ) → IsLine (archiveIn x l)
   -- each valid entry of the cache is in its own set, once, and below L: else a write would renew one entry of its line and leave another
   pub entries : WellCache (settingsIn (x .state)) (shown (x .state .cache))
   -- and has its line's most recent bytes and frame: else a read that hits would be wrong, or a rollback would forget the wrong entries
   pub coherent : Coherent x
+  -- Facts of the types, true of all that a program can lend; the definitions are over lists of numbers, so they are said. The cache's arrays
+  -- are as long as their type has it: else an entry could stand outside the 16 sets
+  pub sized : Sized (x .state .cache)
+  -- and a version and a line of the archive are 16 bytes: else no history could have written them
+  pub version-line : (j l : ℕ) (v : Line) → frameIn x j l ≡ some v → IsLine v
+  pub archive-line : (l : ℕ) → IsLine (archiveIn x l)
 
 -- The store's kind of storage, at which its functions cite the promise of `rules`.
 abbrev pub store : Kind
 store =
     record {
       Storage = Storage;
-      settings = λ x. settingsIn (x .state);
-      cmf = λ x. x .state .registers .cmf;
-      omf = λ x. x .state .registers .omf;
+      registers = λ x. registersIn (x .state);
       lengths = λ x. lengthsIn (x .memory);
       Rest = Memory;
       past = λ n x. pastIn n (x .memory);
       Well = WellStore;
-      frame = frameIn;
-      archive = archiveIn;
+      figure = λ x. record { live = liveIn (x .state); frame = frameIn x; archive = archiveIn x };
       cache = λ x. shown (x .state .cache);
     }

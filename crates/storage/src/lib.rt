@@ -7,7 +7,7 @@ ghost use Prim.Native.Nat.{_^_};
 ghost use lib.Dec.{ltb};
 ghost use Rattle.rules.specs.Sizing.{settingsOf};
 ghost use Rattle.rules.specs.Refusal.{unless, isWidth, askedRefusal, lineRefusal, markedRefusal, placeRefusal, writeRefusal};
-ghost use Rattle.storage.specs.Storage.{settingsAt, liveAt, memoryOf, lengthsIn};
+ghost use Rattle.storage.specs.Storage.{settingsAt, registersOf, liveAt, memoryOf, lengthsIn};
 ghost use Rattle.storage.specs.Admit.{piecesOf, inElements, covers, admitted};
 
 // The settings L, F and P, the registers CMF and OMF, the tag that a write gives, and where the search for a page starts.
@@ -116,7 +116,7 @@ pub fn asked_refusal(lines: u32, frames: u32, pages: u32, lengths: Lengths) -> u
 
 // 5 and 6, which every call but RESET tests first.
 pub fn admit(registers: Registers, lengths: Lengths) -> u32
-    ensures { λ r. ⌜ r ≡ admitted (settingsOf (registers .lines) (registers .frames) (registers .pages)) (registers .cmf) (registers .omf) (piecesOf lengths) 0 ⌝ }
+    ensures { λ r. ⌜ r ≡ admitted (registersOf registers) (piecesOf lengths) 0 ⌝ }
 {
     if registers.frames <= registers.cmf {
         return 5;
@@ -133,7 +133,7 @@ pub fn admit(registers: Registers, lengths: Lengths) -> u32
 
 // 5, 6 and 9: the tests of LINE and its companion.
 pub fn admit_line(registers: Registers, lengths: Lengths, line: u32) -> u32
-    ensures { λ r. ⌜ r ≡ admitted (settingsAt registers) (registers .cmf) (registers .omf) (piecesOf lengths) (lineRefusal (settingsAt registers) line) ⌝ }
+    ensures { λ r. ⌜ r ≡ admitted (registersOf registers) (piecesOf lengths) (lineRefusal (settingsAt registers) line) ⌝ }
 {
     let refusal = admit(registers, lengths);
     if refusal != 0 {
@@ -147,7 +147,7 @@ pub fn admit_line(registers: Registers, lengths: Lengths, line: u32) -> u32
 
 // 5, 6 and 12: the tests of MARK.
 pub fn admit_mark(registers: Registers, lengths: Lengths) -> u32
-    ensures { λ r. ⌜ r ≡ admitted (settingsAt registers) (registers .cmf) (registers .omf) (piecesOf lengths) (unless (ltb (liveAt registers) (registers .frames)) 12 0) ⌝ }
+    ensures { λ r. ⌜ r ≡ admitted (registersOf registers) (piecesOf lengths) (unless (ltb (liveAt registers) (registers .frames)) 12 0) ⌝ }
 {
     let refusal = admit(registers, lengths);
     if refusal != 0 {
@@ -161,7 +161,7 @@ pub fn admit_mark(registers: Registers, lengths: Lengths) -> u32
 
 // 5, 6 and 11: the tests of ROLLBACK and ADVANCE.
 pub fn admit_frames(registers: Registers, lengths: Lengths, k: u32) -> u32
-    ensures { λ r. ⌜ r ≡ admitted (settingsAt registers) (registers .cmf) (registers .omf) (piecesOf lengths) (markedRefusal (liveAt registers) k) ⌝ }
+    ensures { λ r. ⌜ r ≡ admitted (registersOf registers) (piecesOf lengths) (markedRefusal (liveAt registers) k) ⌝ }
 {
     let refusal = admit(registers, lengths);
     if refusal != 0 {
@@ -194,7 +194,7 @@ fn is_width(width: u32) -> bool
 
 // 5 to 9: the tests of READ. The address may be any number: nothing is added to it.
 pub fn admit_place(registers: Registers, lengths: Lengths, width: u32, address: u32) -> u32
-    ensures { λ r. ⌜ r ≡ admitted (settingsAt registers) (registers .cmf) (registers .omf) (piecesOf lengths) (placeRefusal (settingsAt registers) width address 0) ⌝ }
+    ensures { λ r. ⌜ r ≡ admitted (registersOf registers) (piecesOf lengths) (placeRefusal (settingsAt registers) width address 0) ⌝ }
 {
     let refusal = admit(registers, lengths);
     if refusal != 0 {
@@ -240,7 +240,7 @@ pub fn admit_write(
     address: u32,
     value: u32,
 ) -> u32
-    ensures { λ r. ⌜ r ≡ admitted (settingsAt registers) (registers .cmf) (registers .omf) (piecesOf lengths) (writeRefusal (settingsAt registers) width address value 0) ⌝ }
+    ensures { λ r. ⌜ r ≡ admitted (registersOf registers) (piecesOf lengths) (writeRefusal (settingsAt registers) width address value 0) ⌝ }
 {
     let refusal = admit_place(registers, lengths, width, address);
     if refusal != 0 {

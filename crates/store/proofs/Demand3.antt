@@ -1,15 +1,16 @@
 -- DEMAND 3 of the store, with nothing left as a parameter: whatever the state and the lent contents, after an accepted RESET every list of
 -- calls, refused ones and further resets included, gets the plain store's answers. Each step of the list is the promise that the `ensures`
 -- of the call states. Assumes nothing.
-use mathlib.Core.Path.{_≡_, sym, _∙_, ap, subst}
+use mathlib.Core.Path.{_≡_, refl, sym, _∙_, ap, subst}
 use mathlib.Core.List.{List, [], _∷_}
-use Prim.Native.Nat.{ℕ}
+use Prim.Native.Nat.{ℕ, zero, suc}
+use native.Mathlib.Nat.{suc-ne-zero}
 use Rattle.rules.specs.Settings.{Settings, Pieces}
-use Rattle.rules.specs.Call.{Call, Answer, numberIn}
+use Rattle.rules.specs.Call.{Call, Answer, numberIn, refused}
 use Rattle.rules.specs.Call.Answer.{outcome}
 use Rattle.rules.specs.Call.Call.{RESET}
 use Rattle.rules.specs.Refusal.{askedRefusal, refusal}
-use Rattle.rules.specs.Plain.{Model, plainFacts, modelAnswer, modelStep, answersFrom, freshModel}
+use Rattle.rules.specs.Plain.{Model, plainRefusal, modelAnswer, modelStep, answersFrom, freshModel}
 use Rattle.rules.specs.Promise.{Promise, Run, factsOf}
 use Rattle.rules.specs.Promise.Run.{stop, next}
 use Rattle.rules.specs.Demand3.{Demand3, AnswersAsHistory}
@@ -30,10 +31,18 @@ store-reached = reached-well store lawful
 pub store-history : AnswersAsHistory store
 store-history = answers-as-history store lawful
 
--- What a caller has of its RESET: the refusal is document 01's,
+-- What a caller has of its RESET: the answer is document 01's refusal or 0,
+pub store-answered : (s t : Storage) (asked : Settings) (a : Answer) → Promise store (RESET asked) s a t → a ≡ outcome (askedRefusal (lengthsIn (s .memory)) asked)
+unfolding refusal factsOf refused
+store-answered s t asked a h = go (askedRefusal (lengthsIn (s .memory)) asked) refl
+  where
+    go : (n : ℕ) → askedRefusal (lengthsIn (s .memory)) asked ≡ n → a ≡ outcome (askedRefusal (lengthsIn (s .memory)) asked)
+    go zero e = h .accepted-call e .answer ∙ ap outcome (sym e)
+    go (suc n) e = h .refused-answer (λ z. suc-ne-zero n (sym e ∙ z))
+
 pub store-refusal : (s t : Storage) (asked : Settings) (n : ℕ) → Promise store (RESET asked) s (outcome n) t → n ≡ askedRefusal (lengthsIn (s .memory)) asked
-unfolding refusal factsOf numberIn
-store-refusal s t asked n h = ap numberIn (h .number)
+unfolding numberIn
+store-refusal s t asked n h = ap numberIn (store-answered s t asked (outcome n) h)
 
 -- and once it is 0 every list of calls gets the plain store's answers.
 pub store-answers : (s t u : Storage) (asked : Settings) (calls : List Call) (given : List Answer) (n : ℕ) → n ≡ 0
@@ -55,7 +64,7 @@ tails a b xs ys e = cc
 
 module _ (s t : Kept) (c : Call) (a : Answer) (m : Model) (q : AnswersAs s m) (h : Promises c s a t) where
   abbrev next-number : ℕ
-  next-number = refusal (plainFacts (lengthsKept s) (m .plain) c) c
+  next-number = plainRefusal (lengthsKept s) (m .plain) c
 
   pub store-answers-next : a ≡ modelAnswer next-number m c
   unfolding answersFrom

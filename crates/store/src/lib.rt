@@ -11,11 +11,13 @@ pub use storage::Step;
 pub use versions::Origin;
 ghost use mathlib.Core.Path.{_≡_};
 ghost use Rattle.rules.specs.Call.Answer.{outcome, lending, counting, verdict};
-ghost use Rattle.rules.specs.Call.Call.{LINE, LINE-REFUSAL, COUNTS, CHECK};
+ghost use Rattle.rules.specs.Call.Look.{LINE, LINE-REFUSAL, COUNTS};
+ghost use Rattle.rules.specs.Call.Act.{LOOK};
+ghost use Rattle.rules.specs.Call.Call.{CHECK, ON};
 ghost use Rattle.rules.specs.Promise.{Promise};
 ghost use Rattle.versions.specs.Newest.{originOf};
 ghost use Rattle.wellformed.specs.Decision.{Decides};
-ghost use Rattle.storage.specs.Storage.{settingsIn, memoryOf, lengthsIn, storageOf, WellStore, store};
+ghost use Rattle.storage.specs.Storage.{registersIn, memoryOf, lengthsIn, storageOf, WellStore, store};
 ghost use Rattle.storage.specs.Admit.{admitted};
 ghost use Rattle.storage.specs.Steps.{freshState};
 ghost use Rattle.storage.specs.Contracts.{Resets, Writes, Reads, Marks, RollsBack, Advances};
@@ -219,7 +221,7 @@ pub fn line<'a>(
     history: &[u16],
     line: u32,
 ) -> &'a [u8]
-    ensures { λ r. ⌜ Promise store (LINE line)
+    ensures { λ r. ⌜ Promise store (ON (LOOK (LINE line)))
         (storageOf state (now (archive .entry)) (now (pool .entry)) (now (groups .entry)) (now (table .entry)) (now (owners .entry)) (now (history .entry)))
         (lending (now r))
         (storageOf state (now (archive .entry)) (now (pool .entry)) (now (groups .entry)) (now (table .entry)) (now (owners .entry)) (now (history .entry))) ⌝ }
@@ -247,7 +249,7 @@ pub fn line_refusal(
     history: &[u16],
     line: u32,
 ) -> u32
-    ensures { λ r. ⌜ Promise store (LINE-REFUSAL line)
+    ensures { λ r. ⌜ Promise store (ON (LOOK (LINE-REFUSAL line)))
         (storageOf state (now (archive .entry)) (now (pool .entry)) (now (groups .entry)) (now (table .entry)) (now (owners .entry)) (now (history .entry)))
         (outcome r)
         (storageOf state (now (archive .entry)) (now (pool .entry)) (now (groups .entry)) (now (table .entry)) (now (owners .entry)) (now (history .entry))) ⌝ }
@@ -382,7 +384,7 @@ pub fn counts(
     owners: &[u32],
     history: &[u16],
 ) -> Counted
-    ensures { λ r. ⌜ Promise store COUNTS
+    ensures { λ r. ⌜ Promise store (ON (LOOK COUNTS))
         (storageOf state (now (archive .entry)) (now (pool .entry)) (now (groups .entry)) (now (table .entry)) (now (owners .entry)) (now (history .entry)))
         (counting (r .refusal) (r .live) (r .pages))
         (storageOf state (now (archive .entry)) (now (pool .entry)) (now (groups .entry)) (now (table .entry)) (now (owners .entry)) (now (history .entry))) ⌝ }
@@ -408,7 +410,7 @@ fn is_well(
     owners: &[u32],
     history: &[u16],
 ) -> bool
-    requires { ⌜ admitted (settingsIn state) (state .registers .cmf) (state .registers .omf) (lengthsIn (memoryOf (now archive) (now pool) (now groups) (now table) (now owners) (now history))) 0 ≡ 0 ⌝ }
+    requires { ⌜ admitted (registersIn state) (lengthsIn (memoryOf (now archive) (now pool) (now groups) (now table) (now owners) (now history))) 0 ≡ 0 ⌝ }
     ensures { λ r. ⌜ Decides r (WellStore (storageOf state (now (archive .entry)) (now (pool .entry)) (now (groups .entry)) (now (table .entry)) (now (owners .entry)) (now (history .entry)))) ⌝ }
 {
     let lines = state.registers.lines;

@@ -5,13 +5,15 @@ use Prim.Native.Nat.{ℕ, zero, suc}
 use native.Mathlib.Omega.{arith}
 use Rattle.rules.specs.Settings.{Settings, Pieces}
 use Rattle.rules.specs.Line.{zeros}
-use Rattle.rules.specs.Call.{Call, Answer, Origin, numberIn, refused}
+use Rattle.rules.specs.Call.{Act, Call, Answer, Origin, numberIn, refused}
 use Rattle.rules.specs.Call.Answer.{outcome, reading, lending, counting, verdict}
-use Rattle.rules.specs.Call.Call.{WRITE, READ, MARK, ROLLBACK}
+use Rattle.rules.specs.Call.Change.{WRITE, MARK, ROLLBACK}
+use Rattle.rules.specs.Call.Act.{READ, CHANGE}
+use Rattle.rules.specs.Call.Call.{ON}
 use Rattle.rules.specs.Seen.{accepted}
-use Rattle.rules.specs.Refusal.{refusal}
+use Rattle.rules.specs.Refusal.{refusal, actRefusal}
 use Rattle.rules.specs.Figure3.{holds, cacheStep}
-use Rattle.rules.specs.Plain.{Model, plainSeen, plainFacts, plainStep, modelAnswer, modelStep, answersFrom, freshModel, fresh, addWrite, playAll, playGroup}
+use Rattle.rules.specs.Plain.{Model, plainSeen, plainFacts, plainRefusal, plainStep, modelAnswer, modelStep, answersFrom, freshModel, fresh, addWrite, playAll, playGroup}
 use Rattle.rules.proofs.Chain.{state-passed, write-passed}
 use Rattle.rules.proofs.Width.{widths, written-read}
 use Rattle.rules.proofs.WellSteps.{zeros-line}
@@ -32,10 +34,10 @@ valueIn (lending x) = 0
 valueIn (counting n l p) = 0
 valueIn (verdict n b) = 0
 
--- An answer of 0 is an accepted call's, and the model goes on from its step.
-module _ (lengths : Pieces) (m : Model) (c : Call) (cs : List Call) where
+-- An answer of 0 is an accepted act's, and the model goes on from its step.
+module _ (lengths : Pieces) (m : Model) (c : Act) (cs : List Call) where
   abbrev number : ℕ
-  number = refusal (plainFacts lengths (m .plain) c) c
+  number = plainRefusal lengths (m .plain) (ON c)
 
   abbrev later : Model
   later = record { plain = plainStep c (m .plain); cache = cacheStep (plainSeen (m .plain)) c (m .cache) }
@@ -45,12 +47,12 @@ module _ (lengths : Pieces) (m : Model) (c : Call) (cs : List Call) where
     answer : a ≡ accepted (plainSeen (m .plain)) (holds (m .cache)) c
     goes-on : rest ≡ answersFrom lengths later cs
 
-  accepted-step : ((k : ℕ) → numberIn (refused k c) ≡ k) → (a : Answer) (rest : List Answer) → a ∷ rest ≡ answersFrom lengths m (c ∷ cs) → numberIn a ≡ 0 → Accepted a rest
+  accepted-step : ((k : ℕ) → numberIn (refused k (ON c)) ≡ k) → (a : Answer) (rest : List Answer) → a ∷ rest ≡ answersFrom lengths m (ON c ∷ cs) → numberIn a ≡ 0 → Accepted a rest
   unfolding answersFrom modelAnswer modelStep headOf tailOf
   accepted-step names a rest e z = go number refl
     where
-      told : (k : ℕ) → number ≡ k → a ∷ rest ≡ modelAnswer k m c ∷ answersFrom lengths (modelStep k m c) cs
-      told k d = e ∙ ap (λ (j : ℕ). modelAnswer j m c ∷ answersFrom lengths (modelStep j m c) cs) d
+      told : (k : ℕ) → number ≡ k → a ∷ rest ≡ modelAnswer k m (ON c) ∷ answersFrom lengths (modelStep k m (ON c)) cs
+      told k d = e ∙ ap (λ (j : ℕ). modelAnswer j m (ON c) ∷ answersFrom lengths (modelStep j m (ON c)) cs) d
 
       go : (k : ℕ) → number ≡ k → Accepted a rest
       go zero d = record { passed = d; answer = ap (headOf a) (told zero d); goes-on = ap tailOf (told zero d) }
@@ -61,14 +63,14 @@ module _ (lengths : Pieces) (m : Model) (c : Call) (cs : List Call) where
 -- The trial's calls, one after the other.
 module _ (lengths : Pieces) (asked : Settings) (a first second v : ℕ) (o : Origin)
     (e : outcome 0 ∷ outcome 0 ∷ outcome 0 ∷ outcome 0 ∷ reading 0 v o ∷ []
-    ≡ answersFrom lengths (freshModel asked) (WRITE 4 a first ∷ MARK ∷ WRITE 4 a second ∷ ROLLBACK 1 ∷ READ 4 a ∷ [])) where
+    ≡ answersFrom lengths (freshModel asked) (ON (CHANGE (WRITE 4 a first)) ∷ ON (CHANGE MARK) ∷ ON (CHANGE (WRITE 4 a second)) ∷ ON (CHANGE (ROLLBACK 1)) ∷ ON (READ 4 a) ∷ [])) where
   pub gone : v ≡ first
-  unfolding refused numberIn valueIn freshModel fresh plainStep addWrite accepted plainSeen playAll playGroup refusal plainFacts
+  unfolding refused numberIn valueIn freshModel fresh plainStep addWrite accepted plainSeen playAll playGroup refusal actRefusal plainFacts plainRefusal
   gone =
-      let s1 = accepted-step lengths (freshModel asked) (WRITE 4 a first) _ (λ k. refl) (outcome 0) _ e refl in
-      let s2 = accepted-step lengths _ MARK _ (λ k. refl) (outcome 0) _ (s1 .goes-on) refl in
-      let s3 = accepted-step lengths _ (WRITE 4 a second) _ (λ k. refl) (outcome 0) _ (s2 .goes-on) refl in
-      let s4 = accepted-step lengths _ (ROLLBACK 1) _ (λ k. refl) (outcome 0) _ (s3 .goes-on) refl in
+      let s1 = accepted-step lengths (freshModel asked) (CHANGE (WRITE 4 a first)) _ (λ k. refl) (outcome 0) _ e refl in
+      let s2 = accepted-step lengths _ (CHANGE MARK) _ (λ k. refl) (outcome 0) _ (s1 .goes-on) refl in
+      let s3 = accepted-step lengths _ (CHANGE (WRITE 4 a second)) _ (λ k. refl) (outcome 0) _ (s2 .goes-on) refl in
+      let s4 = accepted-step lengths _ (CHANGE (ROLLBACK 1)) _ (λ k. refl) (outcome 0) _ (s3 .goes-on) refl in
       let s5 = accepted-step lengths _ (READ 4 a) _ (λ k. refl) (reading 0 v o) _ (s4 .goes-on) refl in
       let w = write-passed asked 4 a first _ (state-passed _ _ (s1 .passed)) in
       ap valueIn (s5 .answer) ∙ written-read 4 a first (widths 4 (w .0 .width)) (w .0 .aligned) (λ l. zeros) (λ l. zeros-line) (w .1)
@@ -76,7 +78,7 @@ module _ (lengths : Pieces) (asked : Settings) (a first second v : ℕ) (o : Ori
 -- in the form in which the client has its refusals
 pub taken-back : (lengths : Pieces) (asked : Settings) (a first second b m w k r v : ℕ) (o : Origin)
     → outcome b ∷ outcome m ∷ outcome w ∷ outcome k ∷ reading r v o ∷ []
-    ≡ answersFrom lengths (freshModel asked) (WRITE 4 a first ∷ MARK ∷ WRITE 4 a second ∷ ROLLBACK 1 ∷ READ 4 a ∷ [])
+    ≡ answersFrom lengths (freshModel asked) (ON (CHANGE (WRITE 4 a first)) ∷ ON (CHANGE MARK) ∷ ON (CHANGE (WRITE 4 a second)) ∷ ON (CHANGE (ROLLBACK 1)) ∷ ON (READ 4 a) ∷ [])
     → b ≡ 0 → m ≡ 0 → w ≡ 0 → k ≡ 0 → r ≡ 0 → v ≡ first
 taken-back lengths asked a first second b m w k r v o e eb em ew ek er =
     gone lengths asked a first second v o (sym (λ i. outcome (eb i) ∷ outcome (em i) ∷ outcome (ew i) ∷ outcome (ek i) ∷ reading (er i) v o ∷ []) ∙ e)

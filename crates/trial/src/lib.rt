@@ -5,7 +5,9 @@ ghost use mathlib.Core.Path.{_≡_};
 ghost use mathlib.Core.List.{[], _∷_};
 ghost use Rattle.rules.specs.Sizing.{settingsOf};
 ghost use Rattle.rules.specs.Call.Answer.{outcome, reading};
-ghost use Rattle.rules.specs.Call.Call.{WRITE, MARK, ROLLBACK, READ};
+ghost use Rattle.rules.specs.Call.Change.{WRITE, MARK, ROLLBACK};
+ghost use Rattle.rules.specs.Call.Act.{READ, CHANGE};
+ghost use Rattle.rules.specs.Call.Call.{ON};
 ghost use Rattle.rules.specs.Refusal.{askedRefusal};
 ghost use Rattle.rules.specs.Plain.{answersFrom, freshModel};
 ghost use Rattle.store.specs.Shown.{lentLengths, shownOrigin};
@@ -44,7 +46,7 @@ pub fn take_back(
         → (outcome (r .before) ∷ outcome (r .mark) ∷ outcome (r .after) ∷ outcome (r .back) ∷ reading (r .read) (r .value) (shownOrigin (r .origin)) ∷ [])
         ≡ answersFrom (lentLengths (now (archive .entry)) (now (pool .entry)) (now (groups .entry)) (now (table .entry)) (now (owners .entry)) (now (history .entry)))
         (freshModel (settingsOf lines frames pages))
-        (WRITE 4 address first ∷ MARK ∷ WRITE 4 address second ∷ ROLLBACK 1 ∷ READ 4 address ∷ []))
+        (ON (CHANGE (WRITE 4 address first)) ∷ ON (CHANGE MARK) ∷ ON (CHANGE (WRITE 4 address second)) ∷ ON (CHANGE (ROLLBACK 1)) ∷ ON (READ 4 address) ∷ []))
         × (r .reset ≡ 0 → r .before ≡ 0 → r .mark ≡ 0 → r .after ≡ 0 → r .back ≡ 0 → r .read ≡ 0 → r .value ≡ first) ⌝ }
 {
     let reset = store::reset(

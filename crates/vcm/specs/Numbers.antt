@@ -6,22 +6,24 @@ use mathlib.Core.List.{List}
 use lib.Dec.{eqb}
 use lib.ListN.{length}
 use Rattle.rules.specs.Call.{Origin}
-use Rattle.rules.specs.Call.Origin.{from-cache, from-frame, from-archive}
+use Rattle.rules.specs.Call.Place.{in-frame, in-archive}
+use Rattle.rules.specs.Call.Origin.{from-cache, from}
 use Rattle.rules.specs.Call.Answer.{outcome, lending, verdict}
-use Rattle.rules.specs.Call.Call.{LINE, LINE-REFUSAL, CHECK}
+use Rattle.rules.specs.Call.Look.{LINE, LINE-REFUSAL}
+use Rattle.rules.specs.Call.Call.{CHECK}
 use Rattle.storage.specs.declared.Registers.{Registers}
 use Rattle.storage.specs.Contracts.{Reads, Looks}
 use Rattle.store.specs.Shown.{Lent, Kept, Promises}
 
 -- "Origin is the cache, or a frame given by how many marks back it lies (0 is CMF), or the archive."
 unfoldable pub originNumber : Origin → ℕ
-originNumber from-archive = 0
-originNumber (from-frame back) = 1
+originNumber (from in-archive) = 0
+originNumber (from (in-frame back)) = 1
 originNumber from-cache = 2
 
 unfoldable pub marksBack : Origin → ℕ
-marksBack from-archive = 0
-marksBack (from-frame back) = back
+marksBack (from in-archive) = 0
+marksBack (from (in-frame back)) = back
 marksBack from-cache = 0
 
 -- READ: "the value and its origin".

@@ -12,7 +12,7 @@ use store::Step;
 ghost use mathlib.Core.Path.{_≡_};
 ghost use Rattle.rules.specs.Sizing.{settingsOf, sizing};
 ghost use Rattle.rules.specs.Call.Answer.{outcome, counting};
-ghost use Rattle.rules.specs.Call.Call.{LINE-REFUSAL, COUNTS};
+ghost use Rattle.rules.specs.Call.Look.{LINE-REFUSAL, COUNTS};
 ghost use Rattle.cache.specs.Entries.{cacheOf};
 ghost use Rattle.storage.specs.Storage.{memoryOf, stateOf, storageOf};
 ghost use Rattle.storage.specs.Steps.{freshState};

@@ -7,7 +7,8 @@ use lib.Dec.{ltb}
 use lib.ListN.{length, getD}
 use Rattle.rules.specs.Line.{Line}
 use Rattle.rules.specs.Call as call
-use Rattle.rules.specs.Call.Origin.{from-cache, from-frame, from-archive}
+use Rattle.rules.specs.Call.Place.{in-frame, in-archive}
+use Rattle.rules.specs.Call.Origin.{from-cache, from}
 use Rattle.frames.specs.Circle.{frameAt}
 use Rattle.frames.specs.declared.Found.{Found}
 use Rattle.frames.specs.declared.Found.the-variants.{At, Nothing}
@@ -58,8 +59,8 @@ backIn live Nothing = origin.Archive
 -- Document 01's origin for each case of the answer's.
 unfoldable pub originOf : code.Origin → call.Origin
 originOf origin.Cache = from-cache
-originOf (origin.Frame back) = from-frame back
-originOf origin.Archive = from-archive
+originOf (origin.Frame back) = from (in-frame back)
+originOf origin.Archive = from in-archive
 
 -- The most recent version of a line among the live frames and the archive,
 unfoldable pub newestOf : Written → (pages live : ℕ) → (archive pool table : List ℕ) → (line : ℕ) → Version

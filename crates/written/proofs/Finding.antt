@@ -5,8 +5,8 @@ use mathlib.Core.Option.{Option, none, some, Option·getD}
 use Prim.Native.Nat.{ℕ, zero, suc, _-_, _<_}
 use native.Mathlib.Omega.{arith}
 use Rattle.rules.specs.Line.{Line}
-use Rattle.rules.specs.Call.{Origin}
-use Rattle.rules.specs.Call.Origin.{from-frame, from-archive}
+use Rattle.rules.specs.Call.{Place}
+use Rattle.rules.specs.Call.Place.{in-frame, in-archive}
 use Rattle.rules.specs.Seen.{further}
 use Rattle.rules.specs.Figure2.{versionIn, foundIn}
 use Rattle.frames.specs.Search.{greatest}
@@ -15,9 +15,9 @@ use Rattle.frames.specs.declared.Found.the-variants.{At, Nothing}
 use Rattle.frames.proofs.Search.{greatest-found}
 
 -- what a search among n live frames finds, as an origin and as a version
-unfoldable pub backOf : ℕ → Found → Origin
-backOf n (At i) = from-frame (n - 1 - i)
-backOf n Nothing = from-archive
+unfoldable pub backOf : ℕ → Found → Place
+backOf n (At i) = in-frame (n - 1 - i)
+backOf n Nothing = in-archive
 
 unfoldable pub versionOf : (ℕ → Line) → Line → Found → Line
 versionOf at other (At i) = at i
@@ -28,25 +28,25 @@ unfolding further backOf
 further-back n (At i) h =
     let b = h i refl in
     let e : suc (n - 1 - i) ≡ suc n - 1 - i = omega arith in
-    ap from-frame e
+    ap in-frame e
 further-back n Nothing h = refl
 
-start : from-archive ≡ backOf zero Nothing
+start : in-archive ≡ backOf zero Nothing
 unfolding backOf
 start = refl
 
-here : (n : ℕ) → from-frame 0 ≡ backOf (suc n) (At n)
+here : (n : ℕ) → in-frame 0 ≡ backOf (suc n) (At n)
 unfolding backOf
 here n =
     let e : 0 ≡ suc n - 1 - n = omega arith in
-    ap from-frame e
+    ap in-frame e
 
 -- the origin that Figure 2's search gives
 pub found-back : (n : ℕ) (f : ℕ → Bool) → foundIn n (λ j. f (n - 1 - j)) ≡ backOf n (greatest n f)
 unfolding foundIn greatest
 found-back zero f = start
 found-back (suc n) f =
-    ap₂ (λ (b : Bool) (o : Origin). cond b (from-frame 0) (further o)) (ap f (top n)) (rows ∙ found-back n f) ∙ go (f n)
+    ap₂ (λ (b : Bool) (o : Place). cond b (in-frame 0) (further o)) (ap f (top n)) (rows ∙ found-back n f) ∙ go (f n)
   where
     top : (n : ℕ) → suc n - 1 - 0 ≡ n
     top n = omega arith
@@ -57,7 +57,7 @@ found-back (suc n) f =
         down : (n j : ℕ) → suc n - 1 - suc j ≡ n - 1 - j
         down n j = omega arith
 
-    go : (b : Bool) → cond b (from-frame 0) (further (backOf n (greatest n f))) ≡ backOf (suc n) (cond b (At n) (greatest n f))
+    go : (b : Bool) → cond b (in-frame 0) (further (backOf n (greatest n f))) ≡ backOf (suc n) (cond b (At n) (greatest n f))
     go true = here n
     go false = further-back n (greatest n f) (λ i e. greatest-found n f i e .below)
 

@@ -23,23 +23,23 @@ part-result-end : tie.Need-part-result-end
 part-result-end c = search needs
 
 returns : tie.Need-returns
-returns c cache = line-refused _ _ _ (measured _ _ _ _ _ _ _ (c .before .before .before .measure .ensures) (c .before .before .admit-line .ensures)) (c .before .if1 .taken)
+returns c cache = line-refused _ _ _ (measured _ _ _ _ _ (c .before .before .before .measure .ensures) (c .before .before .admit-line .ensures)) (c .before .if1 .taken)
 
 live-requires : tie.Need-live-requires
-live-requires c κs = room-turn _ _ _ _ (line-room _ _ _ _ _ _ (measured _ _ _ _ _ _ _ (c .before .before .measure .ensures) (c .before .admit-line .ensures)) (c .if1 .left) .room)
+live-requires c κs = room-turn _ _ (line-room _ _ _ _ (measured _ _ _ _ _ (c .before .before .measure .ensures) (c .before .admit-line .ensures)) (c .if1 .left) .room)
 
 sub-search : tie.Need-sub-search
 sub-search c =
-    let g = line-room _ _ _ _ _ _ (measured _ _ _ _ _ _ _ (c .before .before .before .measure .ensures) (c .before .before .admit-line .ensures)) (c .before .if1 .left) in
+    let g = line-room _ _ _ _ (measured _ _ _ _ _ (c .before .before .before .measure .ensures) (c .before .before .admit-line .ensures)) (c .before .if1 .left) in
     omega (arith, g .live-some, c .live .ensures)
 
 search-requires : tie.Need-search-requires
 search-requires c κs =
-    let g = line-room _ _ _ _ _ _ (measured _ _ _ _ _ _ _ (c .before .before .before .measure .ensures) (c .before .before .admit-line .ensures)) (c .before .if1 .left) in
-    record { lent = room-lent _ _ _ _ _ _ _ _ _ (g .room); line-below = g .line-below; index-below = omega (arith, g .live-some, g .live-most, c .live .ensures) }
+    let g = line-room _ _ _ _ (measured _ _ _ _ _ (c .before .before .before .measure .ensures) (c .before .before .admit-line .ensures)) (c .before .if1 .left) in
+    record { lent = room-lent _ _ _ _ _ _ _ (g .room); line-below = g .line-below; index-below = omega (arith, g .live-some, g .live-most, c .live .ensures) }
 
 locate-requires : tie.Need-locate-requires
-locate-requires c κs = line-spot _ _ _ _ _ (line-room _ _ _ _ _ _ (measured _ _ _ _ _ _ _ (c .before .before .before .before .measure .ensures) (c .before .before .before .admit-line .ensures)) (c .before .before .if1 .left)) _ (c .before .live .ensures) _ _ _ (c .search .ensures)
+locate-requires c κs = line-spot _ _ _ (line-room _ _ _ _ (measured _ _ _ _ _ (c .before .before .before .before .measure .ensures) (c .before .before .before .admit-line .ensures)) (c .before .before .if1 .left)) _ (c .before .live .ensures) _ _ _ (c .search .ensures)
 
 enum-known-page : tie.Need-enum-known-page
 enum-known-page c = search needs
@@ -70,7 +70,7 @@ part-result-start-2 c = search needs
 
 part-result-end-2 : tie.Need-part-result-end-2
 part-result-end-2 c =
-    let g = line-room _ _ _ _ _ _ (measured _ _ _ _ _ _ _ (c .before .before .before .before .before .before .before .before .measure .ensures) (c .before .before .before .before .before .before .before .admit-line .ensures)) (c .before .before .before .before .before .before .if1 .left) in
+    let g = line-room _ _ _ _ (measured _ _ _ _ _ (c .before .before .before .before .before .before .before .before .measure .ensures) (c .before .before .before .before .before .before .before .admit-line .ensures)) (c .before .before .before .before .before .before .if1 .left) in
     page-end _ _ _ _ _ _ _ _ _ _ (c .before .before .before .locate .ensures) (c .before .page .given .1) (g .pool-long)
 
 enum-told : tie.Need-enum-told
@@ -90,14 +90,14 @@ part-result-start-3 c = search needs
 
 part-result-end-3 : tie.Need-part-result-end-3
 part-result-end-3 c =
-    let g = line-room _ _ _ _ _ _ (measured _ _ _ _ _ _ _ (c .before .before .before .before .before .before .before .measure .ensures) (c .before .before .before .before .before .before .admit-line .ensures)) (c .before .before .before .before .before .if1 .left) in
+    let g = line-room _ _ _ _ (measured _ _ _ _ _ (c .before .before .before .before .before .before .before .measure .ensures) (c .before .before .before .before .before .before .admit-line .ensures)) (c .before .before .before .before .before .if1 .left) in
     omega (arith, g .line-below, g .archive-long)
 
 returns-2 : tie.Need-returns-2
-returns-2 c cache = line-in-page _ _ _ (measured _ _ _ _ _ _ _ (c .before .before .before .before .before .before .before .before .before .measure .ensures) (c .before .before .before .before .before .before .before .before .admit-line .ensures)) (c .before .before .before .before .before .before .before .if1 .left) _ (c .before .before .before .before .before .before .live .ensures) _ (c .before .before .before .before .before .search .ensures) _ (c .before .before .before .before .locate .ensures) _ (c .before .before .page .given .1)
+returns-2 c cache = line-in-page _ _ _ (measured _ _ _ _ _ (c .before .before .before .before .before .before .before .before .before .measure .ensures) (c .before .before .before .before .before .before .before .before .admit-line .ensures)) (c .before .before .before .before .before .before .before .if1 .left) _ (c .before .before .before .before .before .before .live .ensures) _ (c .before .before .before .before .before .search .ensures) _ (c .before .before .before .before .locate .ensures) _ (c .before .before .page .given .1)
 
 returns-3 : tie.Need-returns-3
-returns-3 c cache = line-in-archive _ _ _ (measured _ _ _ _ _ _ _ (c .before .before .before .before .before .before .before .before .measure .ensures) (c .before .before .before .before .before .before .before .admit-line .ensures)) (c .before .before .before .before .before .before .if1 .left) _ (c .before .before .before .before .before .live .ensures) _ (c .before .before .before .before .search .ensures) _ (c .before .before .before .locate .ensures) (c .before .enum-told .given .1)
+returns-3 c cache = line-in-archive _ _ _ (measured _ _ _ _ _ (c .before .before .before .before .before .before .before .before .measure .ensures) (c .before .before .before .before .before .before .before .admit-line .ensures)) (c .before .before .before .before .before .before .if1 .left) _ (c .before .before .before .before .before .live .ensures) _ (c .before .before .before .before .search .ensures) _ (c .before .before .before .locate .ensures) (c .before .enum-told .given .1)
 
 pub line-spec : {M : Type 1} → statement M
 line-spec =

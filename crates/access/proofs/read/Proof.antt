@@ -17,7 +17,7 @@ admit-place-requires c κs = search needs
 
 returns : tie.Need-returns
 unfolding originOf
-returns c = (read-refused _ _ _ _ (measured _ _ _ _ _ _ _ (c .before .before .measure .ensures) (c .before .admit-place .ensures)) (c .if1 .taken), λ z. absurd (c .if1 .taken z))
+returns c = (read-refused _ _ _ _ (measured _ _ _ _ _ (c .before .before .measure .ensures) (c .before .admit-place .ensures)) (c .if1 .taken), λ z. absurd (c .if1 .taken z))
 
 find-requires : tie.Need-find-requires
 find-requires c κs = search needs
@@ -32,32 +32,32 @@ recall-requires : tie.Need-recall-requires
 recall-requires c κs = found-below _ _ _ _ _ (c .before .before .before .before .before .before .find .ensures) (c .before .before .before .before .entry .given .1)
 
 value-of-requires : tie.Need-value-of-requires
-value-of-requires c κs = place-room _ _ _ _ _ _ _ (measured _ _ _ _ _ _ _ (c .before .before .before .before .before .before .before .before .before .before .before .before .measure .ensures) (c .before .before .before .before .before .before .before .before .before .before .before .admit-place .ensures)) (c .before .before .before .before .before .before .before .before .before .before .if1 .left) .bytes
+value-of-requires c κs = place-room _ _ _ _ _ (measured _ _ _ _ _ (c .before .before .before .before .before .before .before .before .before .before .before .before .measure .ensures) (c .before .before .before .before .before .before .before .before .before .before .before .admit-place .ensures)) (c .before .before .before .before .before .before .before .before .before .before .if1 .left) .bytes
 
 enum-told : tie.Need-enum-told
 enum-told c = search needs
 
 live-requires : tie.Need-live-requires
-live-requires c κs = room-turn _ _ _ _ (place-room _ _ _ _ _ _ _ (measured _ _ _ _ _ _ _ (c .before .before .before .before .before .before .before .measure .ensures) (c .before .before .before .before .before .before .admit-place .ensures)) (c .before .before .before .before .before .if1 .left) .room)
+live-requires c κs = room-turn _ _ (place-room _ _ _ _ _ (measured _ _ _ _ _ (c .before .before .before .before .before .before .before .measure .ensures) (c .before .before .before .before .before .before .admit-place .ensures)) (c .before .before .before .before .before .if1 .left) .room)
 
 load-requires : tie.Need-load-requires
 load-requires c κs =
-    let p = place-room _ _ _ _ _ _ _ (measured _ _ _ _ _ _ _ (c .before .before .before .before .before .before .before .before .before .before .before .before .before .measure .ensures) (c .before .before .before .before .before .before .before .before .before .before .before .before .admit-place .ensures)) (c .before .before .before .before .before .before .before .before .before .before .before .if1 .left) in
-    room-newest _ _ _ _ _ _ _ _ _ (p .room) _ _ (c .before .before .before .before .before .live .ensures) (p .line-below)
+    let p = place-room _ _ _ _ _ (measured _ _ _ _ _ (c .before .before .before .before .before .before .before .before .before .before .before .before .before .measure .ensures) (c .before .before .before .before .before .before .before .before .before .before .before .before .admit-place .ensures)) (c .before .before .before .before .before .before .before .before .before .before .before .if1 .left) in
+    room-newest _ _ _ _ _ _ _ (p .room) _ _ (c .before .before .before .before .before .live .ensures) (p .line-below)
 
 value-of-requires-2 : tie.Need-value-of-requires-2
-value-of-requires-2 c κs = place-room _ _ _ _ _ _ _ (measured _ _ _ _ _ _ _ (c .before .before .before .before .before .before .before .before .before .before .before .before .before .before .before .measure .ensures) (c .before .before .before .before .before .before .before .before .before .before .before .before .before .before .admit-place .ensures)) (c .before .before .before .before .before .before .before .before .before .before .before .before .before .if1 .left) .bytes
+value-of-requires-2 c κs = place-room _ _ _ _ _ (measured _ _ _ _ _ (c .before .before .before .before .before .before .before .before .before .before .before .before .before .before .before .measure .ensures) (c .before .before .before .before .before .before .before .before .before .before .before .before .before .before .admit-place .ensures)) (c .before .before .before .before .before .before .before .before .before .before .before .before .before .if1 .left) .bytes
 
 returns-2 : tie.Need-returns-2
 returns-2 c = (
-  hit-told _ _ _ _ (measured _ _ _ _ _ _ _ (c .before .before .before .before .before .before .before .before .before .before .before .before .before .measure .ensures) (c .before .before .before .before .before .before .before .before .before .before .before .before .admit-place .ensures)) (c .before .before .before .before .before .before .before .before .before .before .before .if1 .left) _ refl _ (c .before .before .before .before .before .before .before .before .find .ensures) _ (c .before .before .before .before .before .before .entry .given .1) _ (c .before .before .before .line-at .ensures) _ (c .value-of .ensures) _ (c .before .recall .ensures),
-  λ z. hit-state _ _ _ _ (measured _ _ _ _ _ _ _ (c .before .before .before .before .before .before .before .before .before .before .before .before .before .measure .ensures) (c .before .before .before .before .before .before .before .before .before .before .before .before .admit-place .ensures)) (c .before .before .before .before .before .before .before .before .before .before .before .if1 .left) _ refl _ (c .before .before .before .before .before .before .before .before .find .ensures) _ (c .before .before .before .before .before .before .entry .given .1) _ (c .before .before .before .line-at .ensures) _ (c .value-of .ensures) _ (c .before .recall .ensures),
+  hit-told _ _ _ _ (measured _ _ _ _ _ (c .before .before .before .before .before .before .before .before .before .before .before .before .before .measure .ensures) (c .before .before .before .before .before .before .before .before .before .before .before .before .admit-place .ensures)) (c .before .before .before .before .before .before .before .before .before .before .before .if1 .left) _ refl _ (c .before .before .before .before .before .before .before .before .find .ensures) _ (c .before .before .before .before .before .before .entry .given .1) _ (c .before .before .before .line-at .ensures) _ (c .value-of .ensures) _ (c .before .recall .ensures),
+  λ z. hit-state _ _ _ _ (measured _ _ _ _ _ (c .before .before .before .before .before .before .before .before .before .before .before .before .before .measure .ensures) (c .before .before .before .before .before .before .before .before .before .before .before .before .admit-place .ensures)) (c .before .before .before .before .before .before .before .before .before .before .before .if1 .left) _ refl _ (c .before .before .before .before .before .before .before .before .find .ensures) _ (c .before .before .before .before .before .before .entry .given .1) _ (c .before .before .before .line-at .ensures) _ (c .value-of .ensures) _ (c .before .recall .ensures),
 )
 
 returns-3 : tie.Need-returns-3
 returns-3 c = (
-  miss-told _ _ _ _ (measured _ _ _ _ _ _ _ (c .before .before .before .before .before .before .before .before .before .before .before .before .before .before .before .before .measure .ensures) (c .before .before .before .before .before .before .before .before .before .before .before .before .before .before .before .admit-place .ensures)) (c .before .before .before .before .before .before .before .before .before .before .before .before .before .before .if1 .left) _ (c .before .before .before .before .before .before .before .before .live .ensures) _ (c .before .before .before .before .before .before .before .before .before .before .before .find .ensures) (c .before .before .before .before .before .before .before .before .before .enum-told .given .1) _ (c .before .before .load .ensures .0) _ (c .value-of2 .ensures) _ (c .before .before .load .ensures .1),
-  λ z. miss-state _ _ _ _ (measured _ _ _ _ _ _ _ (c .before .before .before .before .before .before .before .before .before .before .before .before .before .before .before .before .measure .ensures) (c .before .before .before .before .before .before .before .before .before .before .before .before .before .before .before .admit-place .ensures)) (c .before .before .before .before .before .before .before .before .before .before .before .before .before .before .if1 .left) _ (c .before .before .before .before .before .before .before .before .live .ensures) _ (c .before .before .before .before .before .before .before .before .before .before .before .find .ensures) (c .before .before .before .before .before .before .before .before .before .enum-told .given .1) _ (c .before .before .load .ensures .0) _ (c .value-of2 .ensures) _ (c .before .before .load .ensures .1),
+  miss-told _ _ _ _ (measured _ _ _ _ _ (c .before .before .before .before .before .before .before .before .before .before .before .before .before .before .before .before .measure .ensures) (c .before .before .before .before .before .before .before .before .before .before .before .before .before .before .before .admit-place .ensures)) (c .before .before .before .before .before .before .before .before .before .before .before .before .before .before .if1 .left) _ (c .before .before .before .before .before .before .before .before .live .ensures) _ (c .before .before .before .before .before .before .before .before .before .before .before .find .ensures) (c .before .before .before .before .before .before .before .before .before .enum-told .given .1) _ (c .before .before .load .ensures .0) _ (c .value-of2 .ensures) _ (c .before .before .load .ensures .1),
+  λ z. miss-state _ _ _ _ (measured _ _ _ _ _ (c .before .before .before .before .before .before .before .before .before .before .before .before .before .before .before .before .measure .ensures) (c .before .before .before .before .before .before .before .before .before .before .before .before .before .before .before .admit-place .ensures)) (c .before .before .before .before .before .before .before .before .before .before .before .before .before .before .if1 .left) _ (c .before .before .before .before .before .before .before .before .live .ensures) _ (c .before .before .before .before .before .before .before .before .before .before .before .find .ensures) (c .before .before .before .before .before .before .before .before .before .enum-told .given .1) _ (c .before .before .load .ensures .0) _ (c .value-of2 .ensures) _ (c .before .before .load .ensures .1),
 )
 
 pub read-spec : {M : Type 1} → statement M

@@ -27,21 +27,21 @@ same-length-4 : tie.Need-same-length-4
 same-length-4 c = search needs
 
 returns : tie.Need-returns
-returns c = (write-refused _ _ _ _ _ (measured _ _ _ _ _ _ _ (c .before .before .measure .ensures) (c .before .admit-write .ensures)) (c .if1 .taken), λ z. absurd (c .if1 .taken z))
+returns c = (write-refused _ _ _ _ _ (measured _ _ _ _ _ (c .before .before .measure .ensures) (c .before .admit-write .ensures)) (c .if1 .taken), λ z. absurd (c .if1 .taken z))
 
 live-requires : tie.Need-live-requires
-live-requires c κs = room-turn _ _ _ _ (write-room _ _ _ _ _ _ _ _ (measured _ _ _ _ _ _ _ (c .before .before .measure .ensures) (c .before .admit-write .ensures)) (c .if1 .left) .0 .room)
+live-requires c κs = room-turn _ _ (write-room _ _ _ _ _ _ (measured _ _ _ _ _ (c .before .before .measure .ensures) (c .before .admit-write .ensures)) (c .if1 .left) .0 .room)
 
 page-for-requires : tie.Need-page-for-requires
 page-for-requires c κs =
-    let g = write-room _ _ _ _ _ _ _ _ (measured _ _ _ _ _ _ _ (c .before .before .before .before .before .before .measure .ensures) (c .before .before .before .before .before .admit-write .ensures)) (c .before .before .before .before .if1 .left) .0 in
-    room-page _ _ _ _ _ _ _ _ _ (g .room) _ (g .line-below)
+    let g = write-room _ _ _ _ _ _ (measured _ _ _ _ _ (c .before .before .before .before .before .before .measure .ensures) (c .before .before .before .before .before .admit-write .ensures)) (c .before .before .before .before .if1 .left) .0 in
+    room-page _ _ _ _ _ _ _ (g .room) _ (g .line-below)
 
 enum-known-found : tie.Need-enum-known-found
 enum-known-found c = search needs
 
 put-value-requires : tie.Need-put-value-requires
-put-value-requires c κs = asks-write _ _ _ _ _ (measured _ _ _ _ _ _ _ (c .before .before .before .before .before .before .before .before .before .before .before .before .before .before .before .before .before .before .before .measure .ensures) (c .before .before .before .before .before .before .before .before .before .before .before .before .before .before .before .before .before .before .admit-write .ensures)) (c .before .before .before .before .before .before .before .before .before .before .before .before .before .before .before .before .before .if1 .left) _ _ (c .before .before .before .before .before .before .before .before .before .before .before .before .before .before .before .before .live .ensures) (sym (c .before .before .before .before .before .before .before .before .before .before .before .before .page-for .ensures .0) ∙ c .before .before .before .before .before .before .before .before .before .before .found .given .1)
+put-value-requires c κs = asks-write _ _ _ _ _ (measured _ _ _ _ _ (c .before .before .before .before .before .before .before .before .before .before .before .before .before .before .before .before .before .before .before .measure .ensures) (c .before .before .before .before .before .before .before .before .before .before .before .before .before .before .before .before .before .before .admit-write .ensures)) (c .before .before .before .before .before .before .before .before .before .before .before .before .before .before .before .before .before .if1 .left) _ _ (c .before .before .before .before .before .before .before .before .before .before .before .before .before .before .before .before .live .ensures) (sym (c .before .before .before .before .before .before .before .before .before .before .before .before .page-for .ensures .0) ∙ c .before .before .before .before .before .before .before .before .before .before .found .given .1)
 
 enum-told : tie.Need-enum-told
 enum-told c = search needs
@@ -60,8 +60,8 @@ same-length-8 c = search needs
 
 returns-2 : tie.Need-returns-2
 returns-2 c = (
-  write-done _ _ _ _ _ (measured _ _ _ _ _ _ _ (c .before .before .before .before .before .before .before .before .before .before .before .before .before .before .before .before .before .before .before .before .before .before .before .before .before .before .before .before .measure .ensures) (c .before .before .before .before .before .before .before .before .before .before .before .before .before .before .before .before .before .before .before .before .before .before .before .before .before .before .before .admit-write .ensures)) (c .before .before .before .before .before .before .before .before .before .before .before .before .before .before .before .before .before .before .before .before .before .before .before .before .before .before .if1 .left) _ (c .before .before .before .before .before .before .before .before .before .before .before .before .before .before .before .before .before .before .before .before .before .page-for .ensures .0) _ (c .before .before .before .before .before .before .before .before .before .before .before .before .before .before .before .before .before .before .before .found .given .1) _ (c .before .before .before .before .before .before .before .before .before .before .before .before .before .before .before .before .before .before .before .before .before .before .before .before .before .live .ensures) _ _ (c .before .before .before .before .before .before .before .before .put-value .ensures) _ (c .before .before .before .before .before .before .before .before .before .before .before .before .before .before .before .before .before .before .before .before .before .page-for .ensures .1),
-  λ z. write-left _ _ _ _ _ (measured _ _ _ _ _ _ _ (c .before .before .before .before .before .before .before .before .before .before .before .before .before .before .before .before .before .before .before .before .before .before .before .before .before .before .before .before .measure .ensures) (c .before .before .before .before .before .before .before .before .before .before .before .before .before .before .before .before .before .before .before .before .before .before .before .before .before .before .before .admit-write .ensures)) (c .before .before .before .before .before .before .before .before .before .before .before .before .before .before .before .before .before .before .before .before .before .before .before .before .before .before .if1 .left) _ (c .before .before .before .before .before .before .before .before .before .before .before .before .before .before .before .before .before .before .before .before .before .page-for .ensures .0) _ (c .before .before .before .before .before .before .before .before .before .before .before .before .before .before .before .before .before .before .before .found .given .1) _ (c .before .before .before .before .before .before .before .before .before .before .before .before .before .before .before .before .before .before .before .before .before .before .before .before .before .live .ensures) _ _ (c .before .before .before .before .before .before .before .before .put-value .ensures) _ (c .before .before .before .before .before .before .before .before .before .before .before .before .before .before .before .before .before .before .before .before .before .page-for .ensures .1),
+  write-done _ _ _ _ _ (measured _ _ _ _ _ (c .before .before .before .before .before .before .before .before .before .before .before .before .before .before .before .before .before .before .before .before .before .before .before .before .before .before .before .before .measure .ensures) (c .before .before .before .before .before .before .before .before .before .before .before .before .before .before .before .before .before .before .before .before .before .before .before .before .before .before .before .admit-write .ensures)) (c .before .before .before .before .before .before .before .before .before .before .before .before .before .before .before .before .before .before .before .before .before .before .before .before .before .before .if1 .left) _ (c .before .before .before .before .before .before .before .before .before .before .before .before .before .before .before .before .before .before .before .before .before .page-for .ensures .0) _ (c .before .before .before .before .before .before .before .before .before .before .before .before .before .before .before .before .before .before .before .found .given .1) _ (c .before .before .before .before .before .before .before .before .before .before .before .before .before .before .before .before .before .before .before .before .before .before .before .before .before .live .ensures) _ _ (c .before .before .before .before .before .before .before .before .put-value .ensures) _ (c .before .before .before .before .before .before .before .before .before .before .before .before .before .before .before .before .before .before .before .before .before .page-for .ensures .1),
+  λ z. write-left _ _ _ _ _ (measured _ _ _ _ _ (c .before .before .before .before .before .before .before .before .before .before .before .before .before .before .before .before .before .before .before .before .before .before .before .before .before .before .before .before .measure .ensures) (c .before .before .before .before .before .before .before .before .before .before .before .before .before .before .before .before .before .before .before .before .before .before .before .before .before .before .before .admit-write .ensures)) (c .before .before .before .before .before .before .before .before .before .before .before .before .before .before .before .before .before .before .before .before .before .before .before .before .before .before .if1 .left) _ (c .before .before .before .before .before .before .before .before .before .before .before .before .before .before .before .before .before .before .before .before .before .page-for .ensures .0) _ (c .before .before .before .before .before .before .before .before .before .before .before .before .before .before .before .before .before .before .before .found .given .1) _ (c .before .before .before .before .before .before .before .before .before .before .before .before .before .before .before .before .before .before .before .before .before .before .before .before .before .live .ensures) _ _ (c .before .before .before .before .before .before .before .before .put-value .ensures) _ (c .before .before .before .before .before .before .before .before .before .before .before .before .before .before .before .before .before .before .before .before .before .page-for .ensures .1),
 )
 
 same-length-9 : tie.Need-same-length-9
@@ -77,7 +77,7 @@ same-length-12 : tie.Need-same-length-12
 same-length-12 c = search needs
 
 returns-3 : tie.Need-returns-3
-returns-3 c = (write-full _ _ _ _ _ (measured _ _ _ _ _ _ _ (c .before .before .before .before .before .before .before .before .before .measure .ensures) (c .before .before .before .before .before .before .before .before .admit-write .ensures)) (c .before .before .before .before .before .before .before .if1 .left) (sym (c .before .before .page-for .ensures .0) ∙ c .enum-told .given .1), λ z. absurd (omega arith))
+returns-3 c = (write-full _ _ _ _ _ (measured _ _ _ _ _ (c .before .before .before .before .before .before .before .before .before .measure .ensures) (c .before .before .before .before .before .before .before .before .admit-write .ensures)) (c .before .before .before .before .before .before .before .if1 .left) (sym (c .before .before .page-for .ensures .0) ∙ c .enum-told .given .1), λ z. absurd (omega arith))
 
 pub write-spec : {M : Type 1} → statement M
 write-spec =

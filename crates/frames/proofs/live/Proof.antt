@@ -1,7 +1,7 @@
 -- `frames::live` meets its contract. Assumes nothing.
 use mathlib.Core.Path.{ap}
 use Prim.Native.Nat.{ℕ, _+_}
-use Rattle.rules.specs.Refusal.{liveFrames}
+use Rattle.rules.specs.Registers.{liveBetween}
 use Rattle.frames.specs.Circle.{indexOf}
 use Rattle.frames.proofs.Circle.{live-small}
 use borrow.Author.Needs.{needs}
@@ -15,7 +15,7 @@ add-result : tie.Need-add-result
 add-result c = search (needs, live-small)
 
 returns : tie.Need-returns
-unfolding liveFrames indexOf
+unfolding liveBetween indexOf
 returns c = ap (λ (n : ℕ). n + 1) (c .index .ensures)
 
 pub live-spec : {M : Type 1} → statement M

@@ -24,34 +24,34 @@ same-length-3 : tie.Need-same-length-3
 same-length-3 c = search needs
 
 returns : tie.Need-returns
-returns c = λ held valid bytes last. (advance-refused _ _ _ (measured _ _ _ _ _ _ _ (c .before .before .measure .ensures) (c .before .admit-frames .ensures)) (c .if1 .taken), λ z. absurd (c .if1 .taken z))
+returns c = λ held valid bytes last. (advance-refused _ _ _ (measured _ _ _ _ _ (c .before .before .measure .ensures) (c .before .admit-frames .ensures)) (c .if1 .taken), λ z. absurd (c .if1 .taken z))
 
 fold-requires : tie.Need-fold-requires
-fold-requires c κs = fold-asks _ _ _ _ _ _ _ _ _ _ (frames-room _ _ _ _ _ _ (measured _ _ _ _ _ _ _ (c .before .before .before .before .before .measure .ensures) (c .before .before .before .before .admit-frames .ensures)) (c .before .before .before .if1 .left))
+fold-requires c κs = fold-asks _ _ _ _ _ _ _ _ (frames-room _ _ _ _ (measured _ _ _ _ _ (c .before .before .before .before .before .measure .ensures) (c .before .before .before .before .admit-frames .ensures)) (c .before .before .before .if1 .left))
 
 cast-advance : tie.Need-cast-advance
 cast-advance c =
-    let g = frames-room _ _ _ _ _ _ (measured _ _ _ _ _ _ _ (c .before .before .before .before .before .before .before .before .before .before .measure .ensures) (c .before .before .before .before .before .before .before .before .before .admit-frames .ensures)) (c .before .before .before .before .before .before .before .before .if1 .left) in
+    let g = frames-room _ _ _ _ (measured _ _ _ _ _ (c .before .before .before .before .before .before .before .before .before .before .measure .ensures) (c .before .before .before .before .before .before .before .before .before .admit-frames .ensures)) (c .before .before .before .before .before .before .before .before .if1 .left) in
     omega (arith, g .k-low, g .live-most, g .room .good .frames-to)
 
 advance-requires : tie.Need-advance-requires
 advance-requires c κs =
-    let g = frames-room _ _ _ _ _ _ (measured _ _ _ _ _ _ _ (c .before .before .before .before .before .before .before .before .before .before .measure .ensures) (c .before .before .before .before .before .before .before .before .before .admit-frames .ensures)) (c .before .before .before .before .before .before .before .before .if1 .left) in
-    (room-lent _ _ _ _ _ _ _ _ _ (g .room), omega (arith, g .k-low, g .live-some, g .live-most))
+    let g = frames-room _ _ _ _ (measured _ _ _ _ _ (c .before .before .before .before .before .before .before .before .before .before .measure .ensures) (c .before .before .before .before .before .before .before .before .before .admit-frames .ensures)) (c .before .before .before .before .before .before .before .before .if1 .left) in
+    (room-lent _ _ _ _ _ _ _ (g .room), omega (arith, g .k-low, g .live-some, g .live-most))
 
 collect-requires : tie.Need-collect-requires
 collect-requires c κs =
-    let g = frames-room _ _ _ _ _ _ (measured _ _ _ _ _ _ _ (c .before .before .before .before .before .before .before .before .before .before .before .before .before .before .before .before .measure .ensures) (c .before .before .before .before .before .before .before .before .before .before .before .before .before .before .before .admit-frames .ensures)) (c .before .before .before .before .before .before .before .before .before .before .before .before .before .before .if1 .left) in
-    room-circle _ _ _ _ (g .room)
+    let g = frames-room _ _ _ _ (measured _ _ _ _ _ (c .before .before .before .before .before .before .before .before .before .before .before .before .before .before .before .before .measure .ensures) (c .before .before .before .before .before .before .before .before .before .before .before .before .before .before .before .admit-frames .ensures)) (c .before .before .before .before .before .before .before .before .before .before .before .before .before .before .if1 .left) in
+    room-circle _ _ (g .room)
 
 add-omf : tie.Need-add-omf
 add-omf c =
-    let g = frames-room _ _ _ _ _ _ (measured _ _ _ _ _ _ _ (c .before .before .before .before .before .before .before .before .before .before .before .before .before .before .before .before .before .before .measure .ensures) (c .before .before .before .before .before .before .before .before .before .before .before .before .before .before .before .before .before .admit-frames .ensures)) (c .before .before .before .before .before .before .before .before .before .before .before .before .before .before .before .before .if1 .left) in
+    let g = frames-room _ _ _ _ (measured _ _ _ _ _ (c .before .before .before .before .before .before .before .before .before .before .before .before .before .before .before .before .before .before .measure .ensures) (c .before .before .before .before .before .before .before .before .before .before .before .before .before .before .before .before .before .admit-frames .ensures)) (c .before .before .before .before .before .before .before .before .before .before .before .before .before .before .before .before .if1 .left) in
     omega (arith, g .k-low, g .live-most, g .room .fits .omf-below, g .room .good .frames-to)
 
 rem-omf : tie.Need-rem-omf
 rem-omf c =
-    let g = frames-room _ _ _ _ _ _ (measured _ _ _ _ _ _ _ (c .before .before .before .before .before .before .before .before .before .before .before .before .before .before .before .before .before .before .before .measure .ensures) (c .before .before .before .before .before .before .before .before .before .before .before .before .before .before .before .before .before .before .admit-frames .ensures)) (c .before .before .before .before .before .before .before .before .before .before .before .before .before .before .before .before .before .if1 .left) in
+    let g = frames-room _ _ _ _ (measured _ _ _ _ _ (c .before .before .before .before .before .before .before .before .before .before .before .before .before .before .before .before .before .before .before .measure .ensures) (c .before .before .before .before .before .before .before .before .before .before .before .before .before .before .before .before .before .before .admit-frames .ensures)) (c .before .before .before .before .before .before .before .before .before .before .before .before .before .before .before .before .before .if1 .left) in
     omega (arith, g .room .fits .omf-below)
 
 same-length-4 : tie.Need-same-length-4
@@ -65,7 +65,7 @@ same-length-6 c = search needs
 
 returns-2 : tie.Need-returns-2
 returns-2 c = λ held valid bytes last.
-    let p = advance-collects _ _ _ (measured _ _ _ _ _ _ _ (c .before .before .before .before .before .before .before .before .before .before .before .before .before .before .before .before .before .before .before .measure .ensures) (c .before .before .before .before .before .before .before .before .before .before .before .before .before .before .before .before .before .before .admit-frames .ensures)) (c .before .before .before .before .before .before .before .before .before .before .before .before .before .before .before .before .before .if1 .left) _ _ _ (c .before .before .before .before .before .before .before .before .before .before .before .before .before .fold .ensures) (c .before .before .before .before .before .before .before .before .advance .ensures .0) (c .before .before .before .before .before .before .before .before .advance .ensures .1) _ _ refl (c .before .before .collect .ensures) in
+    let p = advance-collects _ _ _ (measured _ _ _ _ _ (c .before .before .before .before .before .before .before .before .before .before .before .before .before .before .before .before .before .before .before .measure .ensures) (c .before .before .before .before .before .before .before .before .before .before .before .before .before .before .before .before .before .before .admit-frames .ensures)) (c .before .before .before .before .before .before .before .before .before .before .before .before .before .before .before .before .before .if1 .left) _ _ _ (c .before .before .before .before .before .before .before .before .before .before .before .before .before .fold .ensures) (c .before .before .before .before .before .before .before .before .advance .ensures .0) (c .before .before .before .before .before .before .before .before .advance .ensures .1) _ _ refl (c .before .before .collect .ensures) in
     (p .0, λ z. p .1)
 
 pub advance-spec : {M : Type 1} → statement M

@@ -13,17 +13,17 @@ admit-requires : tie.Need-admit-requires
 admit-requires c κs = search needs
 
 returns : tie.Need-returns
-returns c = λ cache. counts-refused _ _ (measured _ _ _ _ _ _ _ (c .before .before .measure .ensures) (c .before .admit .ensures)) (c .if1 .taken)
+returns c = λ cache. counts-refused _ _ (measured _ _ _ _ _ (c .before .before .measure .ensures) (c .before .admit .ensures)) (c .if1 .taken)
 
 live-requires : tie.Need-live-requires
-live-requires c κs = room-turn _ _ _ _ (admitted-room _ _ _ _ _ _ (c .before .admit .ensures) (c .if1 .left))
+live-requires c κs = room-turn _ _ (admitted-room _ _ _ _ (c .before .admit .ensures) (c .if1 .left))
 
 count-held-requires : tie.Need-count-held-requires
 count-held-requires c κs =
-    room-pages _ _ _ _ _ _ _ _ _ (admitted-room _ _ _ _ _ _ (measured _ _ _ _ _ _ _ (c .before .before .before .measure .ensures) (c .before .before .admit .ensures)) (c .before .if1 .left))
+    room-pages _ _ _ _ _ _ _ (admitted-room _ _ _ _ (measured _ _ _ _ _ (c .before .before .before .measure .ensures) (c .before .before .admit .ensures)) (c .before .if1 .left))
 
 returns-2 : tie.Need-returns-2
-returns-2 c = λ cache. counts-told _ _ (measured _ _ _ _ _ _ _ (c .before .before .before .before .measure .ensures) (c .before .before .before .admit .ensures)) (c .before .before .if1 .left) _ _ (c .before .live .ensures) (c .count-held .ensures)
+returns-2 c = λ cache. counts-told _ _ (measured _ _ _ _ _ (c .before .before .before .before .measure .ensures) (c .before .before .before .admit .ensures)) (c .before .before .if1 .left) _ _ (c .before .live .ensures) (c .count-held .ensures)
 
 pub counts-spec : {M : Type 1} → statement M
 counts-spec =

@@ -15,21 +15,21 @@ admit-mark-requires : tie.Need-admit-mark-requires
 admit-mark-requires c κs = search needs
 
 returns : tie.Need-returns
-returns c = λ cache. (mark-refused _ _ (measured _ _ _ _ _ _ _ (c .before .before .measure .ensures) (c .before .admit-mark .ensures)) (c .if1 .taken), λ z. absurd (c .if1 .taken z))
+returns c = λ cache. (mark-refused _ _ (measured _ _ _ _ _ (c .before .before .measure .ensures) (c .before .admit-mark .ensures)) (c .if1 .taken), λ z. absurd (c .if1 .taken z))
 
 add-next : tie.Need-add-next
 add-next c =
-    let r = admitted-room _ _ _ _ _ _ (c .before .before .admit-mark .ensures) (c .before .if1 .left) in
+    let r = admitted-room _ _ _ _ (c .before .before .admit-mark .ensures) (c .before .if1 .left) in
     omega (arith, r .fits .cmf-below, r .good .frames-to)
 
 rem-next : tie.Need-rem-next
 rem-next c =
-    let r = admitted-room _ _ _ _ _ _ (c .before .before .before .admit-mark .ensures) (c .before .before .if1 .left) in
+    let r = admitted-room _ _ _ _ (c .before .before .before .admit-mark .ensures) (c .before .before .if1 .left) in
     omega (arith, r .fits .cmf-below)
 
 returns-2 : tie.Need-returns-2
 returns-2 c = λ cache.
-    let p = mark-opens _ _ (measured _ _ _ _ _ _ _ (c .before .before .before .before .measure .ensures) (c .before .before .before .admit-mark .ensures)) (c .before .before .if1 .left) _ refl in
+    let p = mark-opens _ _ (measured _ _ _ _ _ (c .before .before .before .before .measure .ensures) (c .before .before .before .admit-mark .ensures)) (c .before .before .if1 .left) _ refl in
     (p .0, λ z. p .1)
 
 pub mark-spec : {M : Type 1} → statement M

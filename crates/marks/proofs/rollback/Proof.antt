@@ -21,44 +21,44 @@ same-length-2 : tie.Need-same-length-2
 same-length-2 c = search needs
 
 returns : tie.Need-returns
-returns c = λ held bytes last. (rollback-refused _ _ _ (measured _ _ _ _ _ _ _ (c .before .before .measure .ensures) (c .before .admit-frames .ensures)) (c .if1 .taken), λ z. absurd (c .if1 .taken z))
+returns c = λ held bytes last. (rollback-refused _ _ _ (measured _ _ _ _ _ (c .before .before .measure .ensures) (c .before .admit-frames .ensures)) (c .if1 .taken), λ z. absurd (c .if1 .taken z))
 
 live-requires : tie.Need-live-requires
-live-requires c κs = room-turn _ _ _ _ (frames-room _ _ _ _ _ _ (measured _ _ _ _ _ _ _ (c .before .before .measure .ensures) (c .before .admit-frames .ensures)) (c .if1 .left) .room)
+live-requires c κs = room-turn _ _ (frames-room _ _ _ _ (measured _ _ _ _ _ (c .before .before .measure .ensures) (c .before .admit-frames .ensures)) (c .if1 .left) .room)
 
 sub-kept : tie.Need-sub-kept
 sub-kept c =
-    let g = frames-room _ _ _ _ _ _ (measured _ _ _ _ _ _ _ (c .before .before .before .measure .ensures) (c .before .before .admit-frames .ensures)) (c .before .if1 .left) in
+    let g = frames-room _ _ _ _ (measured _ _ _ _ _ (c .before .before .before .measure .ensures) (c .before .before .admit-frames .ensures)) (c .before .if1 .left) in
     omega (arith, g .k-some, g .k-low, c .live .ensures)
 
 cast-rollback : tie.Need-cast-rollback
 cast-rollback c =
-    let g = frames-room _ _ _ _ _ _ (measured _ _ _ _ _ _ _ (c .before .before .before .before .before .before .measure .ensures) (c .before .before .before .before .before .admit-frames .ensures)) (c .before .before .before .before .if1 .left) in
+    let g = frames-room _ _ _ _ (measured _ _ _ _ _ (c .before .before .before .before .before .before .measure .ensures) (c .before .before .before .before .before .admit-frames .ensures)) (c .before .before .before .before .if1 .left) in
     omega (arith, g .live-most, g .room .good .frames-to, c .before .before .before .live .ensures)
 
 rollback-requires : tie.Need-rollback-requires
 rollback-requires c κs =
-    let g = frames-room _ _ _ _ _ _ (measured _ _ _ _ _ _ _ (c .before .before .before .before .before .before .measure .ensures) (c .before .before .before .before .before .admit-frames .ensures)) (c .before .before .before .before .if1 .left) in
-    (room-lent _ _ _ _ _ _ _ _ _ (g .room), omega arith)
+    let g = frames-room _ _ _ _ (measured _ _ _ _ _ (c .before .before .before .before .before .before .measure .ensures) (c .before .before .before .before .before .admit-frames .ensures)) (c .before .before .before .before .if1 .left) in
+    (room-lent _ _ _ _ _ _ _ (g .room), omega arith)
 
 forget-requires : tie.Need-forget-requires
 forget-requires c κs =
-    let g = frames-room _ _ _ _ _ _ (measured _ _ _ _ _ _ _ (c .before .before .before .before .before .before .before .before .before .before .before .before .measure .ensures) (c .before .before .before .before .before .before .before .before .before .before .before .admit-frames .ensures)) (c .before .before .before .before .before .before .before .before .before .before .if1 .left) in
-    room-circle _ _ _ _ (g .room)
+    let g = frames-room _ _ _ _ (measured _ _ _ _ _ (c .before .before .before .before .before .before .before .before .before .before .before .before .measure .ensures) (c .before .before .before .before .before .before .before .before .before .before .before .admit-frames .ensures)) (c .before .before .before .before .before .before .before .before .before .before .if1 .left) in
+    room-circle _ _ (g .room)
 
 add-cmf : tie.Need-add-cmf
 add-cmf c =
-    let g = frames-room _ _ _ _ _ _ (measured _ _ _ _ _ _ _ (c .before .before .before .before .before .before .before .before .before .before .before .before .before .before .measure .ensures) (c .before .before .before .before .before .before .before .before .before .before .before .before .before .admit-frames .ensures)) (c .before .before .before .before .before .before .before .before .before .before .before .before .if1 .left) in
+    let g = frames-room _ _ _ _ (measured _ _ _ _ _ (c .before .before .before .before .before .before .before .before .before .before .before .before .before .before .measure .ensures) (c .before .before .before .before .before .before .before .before .before .before .before .before .before .admit-frames .ensures)) (c .before .before .before .before .before .before .before .before .before .before .before .before .if1 .left) in
     omega (arith, g .room .fits .cmf-below, g .room .good .frames-to)
 
 sub-cmf : tie.Need-sub-cmf
 sub-cmf c =
-    let g = frames-room _ _ _ _ _ _ (measured _ _ _ _ _ _ _ (c .before .before .before .before .before .before .before .before .before .before .before .before .before .before .measure .ensures) (c .before .before .before .before .before .before .before .before .before .before .before .before .before .admit-frames .ensures)) (c .before .before .before .before .before .before .before .before .before .before .before .before .if1 .left) in
+    let g = frames-room _ _ _ _ (measured _ _ _ _ _ (c .before .before .before .before .before .before .before .before .before .before .before .before .before .before .measure .ensures) (c .before .before .before .before .before .before .before .before .before .before .before .before .before .admit-frames .ensures)) (c .before .before .before .before .before .before .before .before .before .before .before .before .if1 .left) in
     omega (arith, g .k-low, g .live-most)
 
 rem-cmf : tie.Need-rem-cmf
 rem-cmf c =
-    let g = frames-room _ _ _ _ _ _ (measured _ _ _ _ _ _ _ (c .before .before .before .before .before .before .before .before .before .before .before .before .before .before .before .measure .ensures) (c .before .before .before .before .before .before .before .before .before .before .before .before .before .before .admit-frames .ensures)) (c .before .before .before .before .before .before .before .before .before .before .before .before .before .if1 .left) in
+    let g = frames-room _ _ _ _ (measured _ _ _ _ _ (c .before .before .before .before .before .before .before .before .before .before .before .before .before .before .before .measure .ensures) (c .before .before .before .before .before .before .before .before .before .before .before .before .before .before .admit-frames .ensures)) (c .before .before .before .before .before .before .before .before .before .before .before .before .before .if1 .left) in
     omega (arith, g .room .fits .cmf-below)
 
 same-length-3 : tie.Need-same-length-3
@@ -69,7 +69,7 @@ same-length-4 c = search needs
 
 returns-2 : tie.Need-returns-2
 returns-2 c = λ held bytes last.
-    let p = rollback-drops _ _ _ (measured _ _ _ _ _ _ _ (c .before .before .before .before .before .before .before .before .before .before .before .before .before .before .before .measure .ensures) (c .before .before .before .before .before .before .before .before .before .before .before .before .before .before .admit-frames .ensures)) (c .before .before .before .before .before .before .before .before .before .before .before .before .before .if1 .left) _ (c .before .before .before .before .before .before .before .before .before .before .before .before .live .ensures) _ _ _ (c .before .before .before .before .before .before .before .before .rollback .ensures) _ _ refl (c .before .before .forget .ensures) in
+    let p = rollback-drops _ _ _ (measured _ _ _ _ _ (c .before .before .before .before .before .before .before .before .before .before .before .before .before .before .before .measure .ensures) (c .before .before .before .before .before .before .before .before .before .before .before .before .before .before .admit-frames .ensures)) (c .before .before .before .before .before .before .before .before .before .before .before .before .before .if1 .left) _ (c .before .before .before .before .before .before .before .before .before .before .before .before .live .ensures) _ _ _ (c .before .before .before .before .before .before .before .before .rollback .ensures) _ _ refl (c .before .before .forget .ensures) in
     (p .0, λ z. p .1)
 
 pub rollback-spec : {M : Type 1} → statement M

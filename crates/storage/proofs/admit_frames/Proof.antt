@@ -15,7 +15,7 @@ returns-2 : tie.Need-returns-2
 returns-2 c = search frames-none
 
 live-requires : tie.Need-live-requires
-live-requires c κs = room-turn _ _ _ _ (admitted-room _ _ _ _ _ _ (c .before .before .admit .ensures) (c .before .if1 .left))
+live-requires c κs = room-turn _ _ (admitted-room _ _ _ _ (c .before .before .admit .ensures) (c .before .if1 .left))
 
 returns-3 : tie.Need-returns-3
 returns-3 c = search frames-passes

@@ -24,10 +24,10 @@ returns-3 : tie.Need-returns-3
 returns-3 c = search place-aligned
 
 mul-if4 : tie.Need-mul-if4
-mul-if4 c = omega (arith, lines-in _ _ _ _ _ (c .before .before .before .before .before .admit .ensures) (c .before .before .before .before .if1 .left))
+mul-if4 c = omega (arith, lines-in _ _ _ (c .before .before .before .before .before .admit .ensures) (c .before .before .before .before .if1 .left))
 
 sub-if4 : tie.Need-sub-if4
-sub-if4 c = width-in _ _ _ _ _ (c .before .before .before .before .before .admit .ensures) (c .before .before .before .before .if1 .left) _ 0 _ (c .before .before .before .is-width .ensures) (c .before .before .if2 .left)
+sub-if4 c = width-in _ _ _ (c .before .before .before .before .before .admit .ensures) (c .before .before .before .before .if1 .left) _ 0 _ (c .before .before .before .is-width .ensures) (c .before .before .if2 .left)
 
 returns-4 : tie.Need-returns-4
 returns-4 c = search place-past

@@ -11,7 +11,7 @@ returns : tie.Need-returns
 returns c = search write-turned
 
 is-value-requires : tie.Need-is-value-requires
-is-value-requires c κs = search write-width
+is-value-requires c κs = write-width _ _ _ _ 0 _ (c .before .admit-place .ensures) (c .if1 .left)
 
 returns-2 : tie.Need-returns-2
 returns-2 c = search write-passes

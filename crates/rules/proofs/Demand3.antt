@@ -12,7 +12,7 @@ use Rattle.rules.specs.Call.Answer.{outcome, verdict}
 use Rattle.rules.specs.Call.Act.{READ, LOOK, CHANGE}
 use Rattle.rules.specs.Call.Call.{RESET, CHECK, ON}
 use Rattle.rules.specs.Seen.{accepted}
-use Rattle.rules.specs.Refusal.{refusal, lacks}
+use Rattle.rules.specs.Refusal.{refusal, lacks, factsBy}
 use Rattle.rules.specs.Figure3.{holds, cacheStep}
 use Rattle.rules.specs.Registers.{Registers, atStart}
 use Rattle.rules.specs.Figure2.{Figure, figureStep, figureSeen, registersStep}
@@ -41,7 +41,7 @@ module _ (K : Kind) (law : Lawful K) (lengths : Pieces) where
     same-seen = ap₂ figureSeen (q .settings) (q .figure) ∙ seen-is (m .plain)
 
     same-facts : factsOf K s ≡ plainFacts lengths (m .plain)
-    unfolding factsOf plainFacts picture plainSeen
+    unfolding factsBy plainFacts picture plainSeen
     same-facts = λ i. record {
       settings = q .settings i;
       fits = law .fits s (q .well) i;

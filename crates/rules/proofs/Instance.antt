@@ -20,7 +20,7 @@ use Rattle.rules.specs.Call.Act.{READ, LOOK, CHANGE}
 use Rattle.rules.specs.Call.Call.{RESET, CHECK, ON}
 use Rattle.rules.specs.Seen.{accepted}
 use Rattle.rules.specs.Registers.{Registers, liveFrames, stateFits, atStart}
-use Rattle.rules.specs.Refusal.{refusal, actRefusal, lacks, askedRefusal}
+use Rattle.rules.specs.Refusal.{refusal, actRefusal, lacks, askedRefusal, factsBy}
 use Rattle.rules.specs.Figure3.{Cache, WellCache, emptyCache, holds, cacheStep}
 use Rattle.rules.specs.Figure2.{Figure, initial, figureStep, figureSeen, registersStep}
 use Rattle.rules.specs.Plain.{Each}
@@ -245,7 +245,7 @@ module _ (s : Chip) where
   )
 
   accepts : (c : Call) → number c ≡ 0 → Performed c s
-  unfolding number lacking refusal actRefusal factsOf seenOf reply
+  unfolding number lacking refusal actRefusal factsBy seenOf reply
   accepts (RESET asked) e = starts asked e
   accepts CHECK e = checks e
   accepts (ON (READ w a)) e =
@@ -300,7 +300,7 @@ blank =
 
 -- A reset of the blank state and the calls after it get the plain store's answers, by demand 3.
 run-row : (r : Row) → askedRefusal ample (r .asked) ≡ 0 → played r ≡ r → (u : Chip) × Run chip blank (RESET (r .asked) ∷ r .calls) (r .answers) u
-unfolding blank starts number refusal factsOf played
+unfolding blank starts number refusal factsBy played
 run-row r z e =
     let first : Performed (RESET (r .asked)) blank = starts blank (r .asked) z in
     let rest = runs (r .calls) (first .1) in

@@ -10,7 +10,7 @@ use Rattle.rules.specs.Call.Act.{READ, LOOK, CHANGE}
 use Rattle.rules.specs.Call.Call.{ON}
 use Rattle.rules.specs.Seen.{Seen, accepted}
 use Rattle.rules.specs.Refusal.{refusal, actRefusal, stateRefusal, lacks}
-use Rattle.rules.specs.Promise.{formOf, Kind, Promise, Accepted, seenOf, factsOf, target}
+use Rattle.rules.specs.Promise.{formOf, Kind, Promise, Accepted, seenOf, factsOf, settingsFor}
 
 -- an accepted act's answer has the form of a refused one's
 pub accepted-form : (v : Seen) (held : ℕ → Bool) (c : Act) → formOf (accepted v held c) ≡ formOf (refused 0 (ON c))
@@ -45,7 +45,7 @@ module _ (K : Kind) (c : Call) (s : K .Storage) (lacking : Act → Bool)
 
   -- an accepted call does what is asked of it, inside the lent memory
   pub accept : {a : Answer} {t : K .Storage} → refusal (factsOf K s) lacking c ≡ 0 → formOf a ≡ formOf (refused 0 c) → Accepted K c s a t
-      → K .lengths t ≡ K .lengths s → K .past (elements (target K c s)) t ≡ K .past (elements (target K c s)) s → Promise K c s a t
+      → K .lengths t ≡ K .lengths s → K .past (elements (settingsFor K c s)) t ≡ K .past (elements (settingsFor K c s)) s → Promise K c s a t
   accept {a} e form done lengths past =
       record {
         lacking = lacking;

@@ -72,6 +72,7 @@ marked f (suc j) l = f .frame j l
 
 -- Figure 2 after an accepted act. ROLLBACK: "WB[ln,fr]:=0 for all ln, CMF-k < fr ≤ CMF; CMF := CMF - k;". ADVANCE: "for each line
 -- ln do .. AFrame[ln] := Stack[ln,OMRV]; .. OMF := OMF + k;", and the collected frames are no more: document 01's "and frees them".
+-- Figure and registers are handed to both steps, though no act of document 01 looks at the other part.
 unfoldable pub figureStep : Act → Registers → Figure → Figure
 figureStep (READ w a) r f = f
 figureStep (LOOK q) r f = f

@@ -109,8 +109,7 @@ plainStep (CHANGE (ADVANCE k)) p =
       groups = take (length (p .groups) - k) (p .groups);
     }
 
--- A history that calls can have left: a group for each live frame, accepted writes alone, a base of 16 × L bytes, and no more pages
--- needed than there are.
+-- Something holds of each element of a list.
 abbrev pub Each {ℓ} : {A : Type ℓ} → (A → Type 0) → List A → Type 0
 Each P [] = Unit {0}
 Each P (x ∷ xs) = P x × Each P xs
@@ -118,6 +117,8 @@ Each P (x ∷ xs) = P x × Each P xs
 abbrev pub Acceptable : Settings → Write → Type 0
 Acceptable s w = writeRefusal s (w .width) (w .address) (w .value) 0 ≡ 0
 
+-- A history that calls can have left: a group for each live frame, accepted writes alone, a base of 16 × L bytes, and no more pages
+-- needed than there are.
 pub record Surviving (p : Plain) : Type 0 where
   pub some-group : 0 < length (p .groups)
   pub in-circle : length (p .groups) ≤ p .settings .frames

@@ -16,7 +16,7 @@ use Rattle.rules.specs.Call.Act.{READ, LOOK, CHANGE}
 use Rattle.rules.specs.Call.Call.{RESET, CHECK, ON}
 use Rattle.rules.specs.Seen.{Seen, accepted}
 use Rattle.rules.specs.Registers.{Registers, liveFrames, stateFits, atStart}
-use Rattle.rules.specs.Refusal.{Facts, refusal, lacks}
+use Rattle.rules.specs.Refusal.{Facts, factsBy, refusal, lacks}
 use Rattle.rules.specs.Figure3.{Cache, WellCache, emptyCache, holds, cacheStep}
 use Rattle.rules.specs.Figure2.{Figure, initial, figureStep, figureSeen, registersStep}
 
@@ -63,10 +63,9 @@ module _ (K : Kind) where
   unfoldable pub seenOf : K .Storage → Seen
   seenOf s = figureSeen (settingsAt s) (K .figure s)
 
-  -- What the refusals of a call go by, but for what the storage lacks: the registers and the lent lengths alone.
-  unfoldable pub factsOf : K .Storage → Facts
-  factsOf s =
-      record { settings = settingsAt s; fits = stateFits (K .registers s); lengths = K .lengths s; live = liveFrames (K .registers s) }
+  -- What the refusals of a call go by, but for what the storage lacks.
+  abbrev pub factsOf : K .Storage → Facts
+  factsOf s = factsBy (K .registers s) (K .lengths s)
 
   -- What document 01 asks of the well-formedness: "All storage reached from RESET meets it, and storage that meets it answers as
   -- some surviving history does." RESET's promise and Followed have the first half; the second follows from this.
@@ -121,17 +120,17 @@ module _ (K : Kind) where
   Accepted (ON (CHANGE c)) s a t = Stepped (CHANGE c) s a t
 
   -- The settings whose need bounds what a call may write: those asked for, or those in the state.
-  unfoldable pub target : Call → K .Storage → Settings
-  target (RESET asked) s = asked
-  target CHECK s = settingsAt s
-  target (ON c) s = settingsAt s
+  unfoldable pub settingsFor : Call → K .Storage → Settings
+  settingsFor (RESET asked) s = asked
+  settingsFor CHECK s = settingsAt s
+  settingsFor (ON c) s = settingsAt s
 
   -- The promise of call c on storage s, with answer a and storage t after it.
   pub record Promise (c : Call) (s : K .Storage) (a : Answer) (t : K .Storage) : Type 0 where
     -- whether the storage was found to lack what the act needs: exact on storage that CHECK passes, free on the rest
     pub lacking : Act → Bool
     pub exact : K .Well s → refusal (factsOf s) lacking c ≡ refusal (factsOf s) (lacks (settingsAt s) (seenOf s)) c
-    -- the answer has the call's form, with the refusal, or 0, in it
+    -- the answer has the call's form, with the refusal, or 0, in it (LINE's has none)
     pub number : formOf a ≡ formOf (refused (refusal (factsOf s) lacking c) c)
     -- "leaves state and lent memory untouched" (demand 1), with the answer of a refused call
     pub refused-answer : refusal (factsOf s) lacking c ≢ 0 → a ≡ refused (refusal (factsOf s) lacking c) c
@@ -139,7 +138,7 @@ module _ (K : Kind) where
     pub accepted-call : refusal (factsOf s) lacking c ≡ 0 → Accepted c s a t
     -- "stays inside the lent memory" (demand 1)
     pub lengths : K .lengths t ≡ K .lengths s
-    pub past : K .past (elements (target c s)) t ≡ K .past (elements (target c s)) s
+    pub past : K .past (elements (settingsFor c s)) t ≡ K .past (elements (settingsFor c s)) s
 
   -- A list of calls with its answers, from one storage to another. "Each later call gets the state and lent memory just as the call before
   -- it, refused or not, returned or left them; nothing else passes from call to call."

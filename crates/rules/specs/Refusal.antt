@@ -5,6 +5,7 @@ use mathlib.Core.Bool.{Bool, true, false, not, _&&_, _||_}
 use lib.Dec.{leb, ltb, eqb}
 use Rattle.rules.specs.Settings.{Settings, Pieces, within, enough}
 use Rattle.rules.specs.Line.{lineOf, blockOf}
+use Rattle.rules.specs.Registers.{Registers, liveFrames, stateFits}
 use Rattle.rules.specs.Seen.{Seen}
 use Rattle.rules.specs.Call.{Act, Call}
 use Rattle.rules.specs.Call.Look.{LINE, LINE-REFUSAL, COUNTS}
@@ -31,8 +32,11 @@ pub record Facts : Type 0 where
   -- the live frames
   pub live : ℕ
 
--- Whether the storage lacks what an act needs, which is free where CHECK rejects it. 13: "WRITE's page in CMF is not needed yet and P pages
--- are needed already."
+-- The same by registers and lent lengths.
+unfoldable pub factsBy : Registers → Pieces → Facts
+factsBy r lengths = record { settings = r .settings; fits = stateFits r; lengths = lengths; live = liveFrames r }
+
+-- What only the storage can tell: whether it lacks what an act needs. 13: "WRITE's page in CMF is not needed yet and P pages are needed already."
 unfoldable pub lacks : Settings → Seen → Act → Bool
 lacks s v (READ w a) = false
 lacks s v (LOOK q) = false

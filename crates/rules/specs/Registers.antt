@@ -1,4 +1,5 @@
--- The registers: what the state of a store holds besides its cache. By them alone a state is within its limits, and 11 and 12 are decided.
+-- The registers, which a state holds beside its cache and what no answer shows. By them alone a state is within its limits, and 11 and 12 are
+-- decided.
 use Prim.Native.Nat.{ℕ, _+_, _-_, _%_}
 use mathlib.Core.Bool.{Bool, _&&_}
 use lib.Dec.{ltb}

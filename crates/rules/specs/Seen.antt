@@ -1,5 +1,5 @@
--- What there is to see of a store: with the settings, the lent lengths and the cache, all that a refusal or an answer goes by.
--- The plain store and Figure 2 each say what is seen of them, and the answers are one function of it.
+-- What there is to see of a store. The plain store and Figure 2 each say what is seen of them; the answers are one function of it and of the
+-- cache, and with the registers and the lent lengths it decides the refusals.
 use Prim.Native.Nat.{ℕ, zero, suc, _+_, _*_}
 use mathlib.Core.Bool.{Bool, false, cond, _||_}
 use lib.Dec.{ltb}

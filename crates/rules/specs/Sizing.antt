@@ -29,7 +29,7 @@ noSizes = record { refusal = 4; archive = 0; pool = 0; groups = 0; table = 0; ow
 unfoldable pub sizing : Settings → Need
 sizing s = cond (within s) (sizesOf s) noSizes
 
--- The bytes of a state, which the caller keeps and lends with each call.
+-- The bytes of a state, registers and cache, which the caller keeps. The exported calls are lent the cache's arrays.
 abbrev pub stateBytes : ℕ
 stateBytes = 780
 

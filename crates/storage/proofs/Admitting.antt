@@ -11,7 +11,7 @@ use Rattle.rules.specs.Settings.{Settings, Pieces, within, elements, enough, by
 use Rattle.rules.specs.declared.Need.{Need}
 use Rattle.rules.specs.Sizing.{sizing, sizesOf, noSizes}
 use Rattle.rules.specs.Registers.{Registers, liveFrames, stateFits}
-use Rattle.rules.specs.Refusal.{unless, askedRefusal}
+use Rattle.rules.specs.Refusal.{unless, askedRefusal, factsBy, stateRefusal}
 use Rattle.rules.proofs.Tests.{both-true}
 use Rattle.rules.proofs.Settings.{Good, within-good}
 use Rattle.rules.proofs.Chain.{passed}
@@ -114,12 +114,12 @@ module _ (s : Settings) (p : Pieces) (need : Need) (told : need ≡ sizing s) wh
 -- 5 and 6.
 module _ (s : Registers) (p : Pieces) where
   pub outside-cmf : s .settings .frames ≤ s .cmf → 5 ≡ admitted s p 0
-  unfolding admitted stateFits unless
+  unfolding stateRefusal factsBy stateFits unless
   outside-cmf h =
       sym (ap (λ (x : Bool). unless x 5 (unless (enough (s .settings) p) 6 0)) (ap (λ (x : Bool). within (s .settings) && (x && ltb (s .omf) (s .settings .frames))) (le-ltb (s .cmf) (s .settings .frames) h) ∙ and-false (within (s .settings))))
 
   pub outside-omf : s .settings .frames ≤ s .omf → 5 ≡ admitted s p 0
-  unfolding admitted stateFits unless
+  unfolding stateRefusal factsBy stateFits unless
   outside-omf h =
       sym (ap (λ (x : Bool). unless x 5 (unless (enough (s .settings) p) 6 0))
       (ap (λ (x : Bool). within (s .settings) && (ltb (s .cmf) (s .settings .frames) && x)) (le-ltb (s .omf) (s .settings .frames) h) ∙ (ap (λ (x : Bool). within (s .settings) && x) (and-false (ltb (s .cmf) (s .settings .frames))) ∙ and-false (within (s .settings)))))
@@ -132,7 +132,7 @@ module _ (s : Registers) (p : Pieces) where
 
     module _ (r : ℕ) (asked : r ≡ askedRefusal p (s .settings)) where
       pub outside-limits : r ≡ 4 → 5 ≡ admitted s p 0
-      unfolding askedRefusal admitted unless
+      unfolding askedRefusal stateRefusal factsBy unless
       outside-limits e = go (within (s .settings)) (enough (s .settings) p) refl (sym e ∙ asked)
         where
           go : (w l : Bool) → within (s .settings) ≡ w → 4 ≡ unless w 4 (unless l 6 0) → 5 ≡ admitted s p 0
@@ -141,7 +141,7 @@ module _ (s : Registers) (p : Pieces) where
           go false l d h = sym (ap (λ (x : Bool). unless x 5 (unless (enough (s .settings) p) 6 0)) (fits-within ∙ d))
 
       pub admitted-else : (r ≡ 4 → ⊥) → r ≡ admitted s p 0
-      unfolding askedRefusal admitted unless
+      unfolding askedRefusal stateRefusal factsBy unless
       admitted-else e = go (within (s .settings)) refl asked
         where
           go : (w : Bool) → within (s .settings) ≡ w → r ≡ unless w 4 (unless (enough (s .settings) p) 6 0) → r ≡ admitted s p 0
@@ -155,7 +155,7 @@ pub record Room (s : Registers) (lengths : Pieces) : Type 0 where
   pub long : Long (elements (s .settings)) lengths
 
 pub admitted-room : (s : Registers) (p : Pieces) (a rest : ℕ) → a ≡ admitted s p rest → a ≡ 0 → Room s p
-unfolding admitted covers enough
+unfolding stateRefusal factsBy covers enough
 admitted-room s p a rest e z =
     let t = passed (stateFits s) 5 (unless (enough (s .settings) p) 6 rest) (omega arith) (sym e ∙ z) in
     let f = fits-facts s (t .0) in

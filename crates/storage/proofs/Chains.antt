@@ -10,7 +10,7 @@ use lib.Dec.{ltb, leb, eqb}
 use Rattle.rules.specs.Settings.{Settings, Pieces, elements, enough}
 use Rattle.rules.specs.Line.{lineOf, offsetOf}
 use Rattle.rules.specs.Registers.{Registers, liveFrames, stateFits}
-use Rattle.rules.specs.Refusal.{unless, isWidth, askedRefusal, lineRefusal, markedRefusal, placeRefusal, writeRefusal}
+use Rattle.rules.specs.Refusal.{unless, isWidth, askedRefusal, lineRefusal, markedRefusal, placeRefusal, writeRefusal, factsBy, stateRefusal}
 use Rattle.rules.proofs.Chain.{Placed, fails, passes, passed, place-passed, write-passed, marked-passed}
 use Rattle.rules.proofs.Width.{widths, in-line, line-below}
 use Rattle.rules.proofs.Registers.{live-some, live-at-most}
@@ -89,7 +89,7 @@ asked-measured s a p n e told = told ∙ ap (λ (m : Pieces). askedRefusal m s) 
 
 module _ (s : Registers) (p : Pieces) where
   admitted-links : Links (admitted s p)
-  unfolding admitted
+  unfolding stateRefusal factsBy
   admitted-links =
       join (unless (stateFits s) 5) (unless (enough (s .settings) p) 6) (link (stateFits s) 5 (λ e. omega arith)) (link (enough (s .settings) p) 6 (λ e. omega arith))
 
@@ -114,7 +114,7 @@ module _ (s : Registers) (p : Pieces) where
 
   -- no refusal: the rest refuses nothing either
   pub admitted-rest : (a rest : ℕ) → a ≡ admitted s p rest → a ≡ 0 → rest ≡ 0
-  unfolding admitted
+  unfolding stateRefusal factsBy
   admitted-rest a rest e z =
       passed (enough (s .settings) p) 6 rest (omega arith) (passed (stateFits s) 5 (unless (enough (s .settings) p) 6 rest) (omega arith) (sym e ∙ z) .1) .1
 

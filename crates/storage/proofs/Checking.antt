@@ -16,10 +16,10 @@ use Rattle.rules.specs.Call.{refused}
 use Rattle.rules.specs.Call.Answer.{verdict}
 use Rattle.rules.specs.Call.Call.{CHECK}
 use Rattle.rules.specs.Registers.{Registers, liveFrames, stateFits}
-use Rattle.rules.specs.Refusal.{refusal, stateRefusal}
+use Rattle.rules.specs.Refusal.{refusal, stateRefusal, factsBy}
 use Rattle.rules.specs.Figure2.{initial}
 use Rattle.rules.specs.Figure3.{WellCache}
-use Rattle.rules.specs.Promise.{Promise, factsOf}
+use Rattle.rules.specs.Promise.{Promise}
 use Rattle.rules.proofs.Chain.{passed}
 use Rattle.rules.proofs.Registers.{live-at-most}
 use Rattle.rules.proofs.WellSteps.{initial-well}
@@ -37,7 +37,6 @@ use Rattle.wellformed.specs.Decision.{Decides}
 use Rattle.wellformed.specs.Parts.{RecentIn, Bytes, AsksBits, AsksRecent}
 use Rattle.wellformed.proofs.Deciding.{passes}
 use Rattle.storage.specs.Storage.{Storage, settingsIn, registersIn, liveIn, lengthsIn, writtenIn, indexBack, versionAt, frameIn, archiveIn, latestIn, newestFrame, WellStore, store}
-use Rattle.storage.specs.Admit.{admitted}
 use Rattle.storage.proofs.Admitting.{Room, admitted-room, room-lent, room-newest}
 use Rattle.storage.proofs.Looking.{admittedIn, turned-down, let-through}
 use Rattle.storage.proofs.Figures.{frame-live, frame-past, frame-at, archive-past}
@@ -86,11 +85,11 @@ module _ (s : Registers) (owners live : ℕ) (archive pool groups table history 
 -- What an admitted state and lent memory have.
 module _ (x : Storage) (z : admittedIn x 0 ≡ 0) where
   admitted-fits : stateFits (registersIn (x .state)) ≡ true
-  unfolding admitted
+  unfolding stateRefusal factsBy
   admitted-fits = passed (stateFits (registersIn (x .state))) 5 _ (omega arith) z .0
 
   admitted-long : enough (settingsIn (x .state)) (lengthsIn (x .memory)) ≡ true
-  unfolding admitted
+  unfolding stateRefusal factsBy
   admitted-long =
       passed (enough (settingsIn (x .state)) (lengthsIn (x .memory))) 6 0 (omega arith)
       (passed (stateFits (registersIn (x .state))) 5 _ (omega arith) z .1) .0
@@ -191,10 +190,10 @@ module _ (x : Storage) (z : admittedIn x 0 ≡ 0) (live : ℕ) (counted : live �
 -- CHECK
 module _ (x : Storage) (a : ℕ) (told : a ≡ admittedIn x 0) where
   pub check-refused : a ≢ 0 → Promise store CHECK x (verdict a false) x
-  unfolding refusal stateRefusal factsOf admitted refused
+  unfolding refusal refused
   check-refused z = turned-down x CHECK a told z
 
   pub check-told : a ≡ 0 → (says : Bool) → Decides says (WellStore x) → Promise store CHECK x (verdict 0 says) x
-  unfolding refusal stateRefusal factsOf admitted refused
+  unfolding refusal refused
   check-told z says d =
       let-through x CHECK a told z refl (record { kept = refl; says = says; answer = refl; only = d .only; always = d .always }) refl refl

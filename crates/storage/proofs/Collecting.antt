@@ -20,10 +20,10 @@ use Rattle.rules.specs.Call.Change.{ADVANCE}
 use Rattle.rules.specs.Call.Act.{CHANGE}
 use Rattle.rules.specs.Call.Call.{ON}
 use Rattle.rules.specs.Seen.{accepted, dropped}
-use Rattle.rules.specs.Refusal.{markedRefusal, stateRefusal, refusal, actRefusal}
+use Rattle.rules.specs.Refusal.{markedRefusal, refusal, actRefusal, factsBy}
 use Rattle.rules.specs.Figure2.{figureStep, registersStep, omrv, versionIn, foundIn, isWritten}
 use Rattle.rules.specs.Figure3.{WellCache, cacheStep}
-use Rattle.rules.specs.Promise.{Promise, Followed, factsOf, target, WellFigure}
+use Rattle.rules.specs.Promise.{Promise, Followed, settingsFor, WellFigure}
 use Rattle.rules.specs.Registers as rules
 use Rattle.rules.proofs.Registers.{facts-fit, live-advance}
 use Rattle.rules.proofs.WellSteps.{advance-well}
@@ -46,7 +46,6 @@ use Rattle.versions.specs.Steps.{folded, AsksFold}
 use Rattle.storage.specs.declared.Registers.{Registers}
 use Rattle.storage.specs.Storage.{Storage, stateOf, storageOf, memoryOf, settingsIn, registersIn, lengthsIn, pastIn, Recent, Coherent, liveIn, writtenIn, indexBack, frameIn, archiveIn, versionAt, latestIn, frameNumber, newestFrame, WellStore, store}
 use Rattle.storage.specs.Steps.{advancedRegisters, advancedState, AdvancedTo}
-use Rattle.storage.specs.Admit.{admitted}
 use Rattle.storage.proofs.Limits.{Limits, limits, lent-long}
 use Rattle.storage.proofs.Admitting.{Long, room-table}
 use Rattle.storage.proofs.Chains.{FramesRoom, frames-room}
@@ -278,11 +277,11 @@ module _ (x : Storage) (q : WellStore x) (k : ℕ) (some-k : 0 < k) (low : k ≤
 -- The promise: refused, and accepted.
 module _ (x : Storage) (k a : ℕ) (told : a ≡ admittedIn x (markedRefusal (liveIn (x .state)) k)) where
   pub advance-refused : a ≢ 0 → Promise store (ON (CHANGE (ADVANCE k))) x (outcome a) x
-  unfolding refusal actRefusal stateRefusal factsOf admitted refused
+  unfolding refusal actRefusal factsBy refused
   advance-refused z = turned-down x (ON (CHANGE (ADVANCE k))) a told z
 
   promised : a ≡ 0 → Promise store (ON (CHANGE (ADVANCE k))) x (outcome 0) (collected-to x k)
-  unfolding refusal actRefusal stateRefusal factsOf admitted refused registersStep target advancedState
+  unfolding refusal actRefusal factsBy refused registersStep settingsFor advancedState
   promised z =
       let g = frames-room (registersIn (x .state)) (lengthsIn (x .memory)) a k told z in
       let-through x (ON (CHANGE (ADVANCE k))) a told z refl (record { registers = refl; followed = λ q. advanced-followed x q k (g .k-some) (g .k-low) }) (lengths-kept x k (g .room .long)) (past-kept x k (g .room .long))

@@ -14,16 +14,15 @@ use Rattle.rules.specs.Call.Look.{COUNTS}
 use Rattle.rules.specs.Call.Act.{LOOK}
 use Rattle.rules.specs.Call.Call.{ON}
 use Rattle.rules.specs.Seen.{accepted, count, needs}
-use Rattle.rules.specs.Refusal.{refusal, stateRefusal, actRefusal}
+use Rattle.rules.specs.Refusal.{refusal, actRefusal, factsBy}
 use Rattle.rules.specs.Figure2.{pagesOf, isWritten, figureSeen}
-use Rattle.rules.specs.Promise.{Promise, factsOf, seenOf}
+use Rattle.rules.specs.Promise.{Promise, seenOf}
 use Rattle.rules.proofs.Count.{any-same, count-same}
 use Rattle.written.specs.Bits.{effective}
 use Rattle.pages.specs.Table.{placesOf, neededAt, heldAt}
 use Rattle.pages.proofs.Holding.{held-count}
 use Rattle.pages.proofs.Counting.{needed-pages}
 use Rattle.storage.specs.Storage.{Storage, liveIn, writtenIn, frameIn, versionAt, WellStore, store}
-use Rattle.storage.specs.Admit.{admitted}
 use Rattle.storage.proofs.Limits.{limits}
 use Rattle.storage.proofs.Looking.{admittedIn, turned-down, let-through}
 
@@ -58,12 +57,12 @@ pages-counted x q =
 
 module _ (x : Storage) (a : ℕ) (told : a ≡ admittedIn x 0) where
   pub counts-refused : a ≢ 0 → Promise store (ON (LOOK COUNTS)) x (counting a 0 0) x
-  unfolding refusal actRefusal stateRefusal factsOf admitted refused
+  unfolding refusal actRefusal factsBy refused
   counts-refused z = turned-down x (ON (LOOK COUNTS)) a told z
 
   pub counts-told : a ≡ 0 → (live pages : ℕ) → live ≡ liveIn (x .state) → pages ≡ count (x .state .registers .pages) (heldAt (writtenIn x) (x .memory .table) (x .memory .owners))
       → Promise store (ON (LOOK COUNTS)) x (counting 0 live pages) x
-  unfolding refusal actRefusal stateRefusal factsOf admitted refused accepted seenOf figureSeen
+  unfolding refusal actRefusal factsBy refused accepted seenOf figureSeen
   counts-told z live pages el ep =
       let-through x (ON (LOOK COUNTS)) a told z refl
       (record { kept = refl; answer = λ q. ap₂ (λ (m n : ℕ). counting 0 m n) el (ep ∙ pages-counted x q) }) refl refl

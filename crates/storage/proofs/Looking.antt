@@ -10,8 +10,8 @@ use Rattle.rules.specs.Call.Look.{LINE-REFUSAL}
 use Rattle.rules.specs.Call.Act.{LOOK}
 use Rattle.rules.specs.Call.Call.{ON}
 use Rattle.rules.specs.Seen.{accepted}
-use Rattle.rules.specs.Refusal.{refusal, actRefusal, lacks, stateRefusal, lineRefusal}
-use Rattle.rules.specs.Promise.{formOf, Promise, Accepted, target, factsOf, seenOf}
+use Rattle.rules.specs.Refusal.{refusal, actRefusal, lacks, lineRefusal, factsBy}
+use Rattle.rules.specs.Promise.{formOf, Promise, Accepted, settingsFor, factsOf, seenOf}
 use Rattle.rules.proofs.Promise.{refuse, accept}
 use Rattle.storage.specs.Storage.{Storage, settingsIn, registersIn, lengthsIn, store}
 use Rattle.storage.specs.Admit.{admitted}
@@ -29,12 +29,12 @@ module _ (x : Storage) (c : Call) (r : ℕ) (told : r ≡ refusalOf x c) where
   turned-down z = subst (λ (n : ℕ). Promise store c x (refused n c) x) (sym told) (refuse store c x _ (λ q. refl) (λ d. z (told ∙ d)))
 
   pub let-through : r ≡ 0 → {a : Answer} {t : Storage} → formOf a ≡ formOf (refused 0 c) → Accepted store c x a t → store .lengths t ≡ store .lengths x
-      → store .past (elements (target store c x)) t ≡ store .past (elements (target store c x)) x → Promise store c x a t
+      → store .past (elements (settingsFor store c x)) t ≡ store .past (elements (settingsFor store c x)) x → Promise store c x a t
   let-through z form step long past = accept store c x _ (λ q. refl) (sym told ∙ z) form step long past
 
 -- LINE's companion
 pub companion : (x : Storage) (l r : ℕ) → r ≡ admittedIn x (lineRefusal (settingsIn (x .state)) l) → Promise store (ON (LOOK (LINE-REFUSAL l))) x (outcome r) x
-unfolding refusal actRefusal stateRefusal factsOf admitted refused accepted
+unfolding refusal actRefusal factsBy refused accepted
 companion x l r told = go (ℕ-discrete r 0)
   where
     go : Dec (r ≡ 0) → Promise store (ON (LOOK (LINE-REFUSAL l))) x (outcome r) x

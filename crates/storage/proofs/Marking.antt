@@ -18,10 +18,10 @@ use Rattle.rules.specs.Call.Change.{MARK}
 use Rattle.rules.specs.Call.Act.{CHANGE}
 use Rattle.rules.specs.Call.Call.{ON}
 use Rattle.rules.specs.Seen.{accepted, further}
-use Rattle.rules.specs.Refusal.{unless, refusal, stateRefusal, actRefusal}
+use Rattle.rules.specs.Refusal.{unless, refusal, actRefusal, factsBy}
 use Rattle.rules.specs.Figure2.{marked, figureStep, registersStep, versionIn, foundIn, isWritten}
 use Rattle.rules.specs.Figure3.{cacheStep}
-use Rattle.rules.specs.Promise.{Promise, Followed, WellFigure, factsOf, target}
+use Rattle.rules.specs.Promise.{Promise, Followed, WellFigure, settingsFor}
 use Rattle.rules.proofs.Chain.{passed}
 use Rattle.rules.proofs.Registers.{facts-fit, live-mark}
 use Rattle.rules.proofs.WellSteps.{mark-well}
@@ -34,7 +34,6 @@ use Rattle.storage.specs.declared.Registers.{Registers}
 use Rattle.versions.specs.Newest.{pageOf}
 use Rattle.storage.specs.Storage.{Storage, stateOf, settingsIn, registersIn, lengthsIn, liveIn, writtenIn, frameIn, archiveIn, versionAt, latestIn, frameNumber, newestFrame, WellStore, store}
 use Rattle.storage.specs.Steps.{markedRegisters, markedState}
-use Rattle.storage.specs.Admit.{admitted}
 use Rattle.storage.proofs.Limits.{Limits, limits}
 use Rattle.storage.proofs.Chains.{admitted-rest}
 use Rattle.storage.proofs.Figures.{well-figure, step-versions, step-archive}
@@ -143,13 +142,13 @@ module _ (x : Storage) (q : WellStore x) (room : liveIn (x .state) < x .state .r
 -- The promise: refused, and accepted.
 module _ (x : Storage) (r : ℕ) (told : r ≡ admittedIn x (unless (ltb (liveIn (x .state)) (x .state .registers .frames)) 12 0)) where
   pub mark-refused : r ≢ 0 → Promise store (ON (CHANGE MARK)) x (outcome r) x
-  unfolding refusal actRefusal stateRefusal factsOf admitted refused
+  unfolding refusal actRefusal factsBy refused
   mark-refused z = turned-down x (ON (CHANGE MARK)) r told z
 
   pub mark-opens : r ≡ 0 → (t : Registers) → t ≡ markedRegisters (x .state .registers)
       → Promise store (ON (CHANGE MARK)) x (outcome 0) (record { state = stateOf t (x .state .cache); memory = x .memory })
       × (stateOf t (x .state .cache) ≡ markedState (x .state))
-  unfolding refusal actRefusal stateRefusal factsOf admitted refused registersStep target markedState
+  unfolding refusal actRefusal factsBy refused registersStep settingsFor markedState
   mark-opens z t e =
       let rest = admitted-rest (registersIn (x .state)) (lengthsIn (x .memory)) r _ told z in
       let below = ltb-true (liveIn (x .state)) (x .state .registers .frames) (passed (ltb (liveIn (x .state)) (x .state .registers .frames)) 12 0 (omega arith) rest .0) in (

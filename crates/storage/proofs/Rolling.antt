@@ -20,10 +20,10 @@ use Rattle.rules.specs.Call.Change.{ROLLBACK}
 use Rattle.rules.specs.Call.Act.{CHANGE}
 use Rattle.rules.specs.Call.Call.{ON}
 use Rattle.rules.specs.Seen.{accepted, dropped}
-use Rattle.rules.specs.Refusal.{markedRefusal, stateRefusal, refusal, actRefusal}
+use Rattle.rules.specs.Refusal.{markedRefusal, refusal, actRefusal, factsBy}
 use Rattle.rules.specs.Figure2.{figureStep, registersStep, figureSeen, versionIn, foundIn, isWritten}
 use Rattle.rules.specs.Figure3.{WellCache, cacheStep}
-use Rattle.rules.specs.Promise.{Promise, Followed, factsOf, target, WellFigure, seenOf}
+use Rattle.rules.specs.Promise.{Promise, Followed, settingsFor, WellFigure, seenOf}
 use Rattle.rules.proofs.Registers.{facts-fit, live-rollback}
 use Rattle.rules.proofs.WellSteps.{rollback-well}
 use Rattle.rules.proofs.WellCache.{forget-well}
@@ -43,7 +43,6 @@ use Rattle.storage.specs.declared.State.{State}
 use Rattle.versions.specs.Newest.{pageOf}
 use Rattle.storage.specs.Storage.{Storage, stateOf, storageOf, memoryOf, settingsIn, registersIn, lengthsIn, Recent, Coherent, liveIn, writtenIn, indexBack, frameIn, archiveIn, versionAt, latestIn, frameNumber, newestFrame, WellStore, store}
 use Rattle.storage.specs.Steps.{rolledRegisters, rolledState, RolledTo}
-use Rattle.storage.specs.Admit.{admitted}
 use Rattle.storage.proofs.Limits.{Limits, limits}
 use Rattle.storage.proofs.Chains.{frames-room}
 use Rattle.storage.proofs.Looking.{admittedIn, turned-down, let-through}
@@ -201,7 +200,7 @@ module _ (x : Storage) (q : WellStore x) (k : ℕ) (low : k ≤ liveIn (x .state
 -- The promise: refused, and accepted. The tag given to the history is the state's, cut to its 8 bits.
 module _ (x : Storage) (k a : ℕ) (told : a ≡ admittedIn x (markedRefusal (liveIn (x .state)) k)) where
   pub rollback-refused : a ≢ 0 → Promise store (ON (CHANGE (ROLLBACK k))) x (outcome a) x
-  unfolding refusal actRefusal stateRefusal factsOf admitted refused
+  unfolding refusal actRefusal factsBy refused
   rollback-refused z = turned-down x (ON (CHANGE (ROLLBACK k))) a told z
 
   module _ (z : a ≡ 0) (live : ℕ) (live-is : live ≡ liveIn (x .state)) (groups history : List ℕ) (next : ℕ)
@@ -225,7 +224,7 @@ module _ (x : Storage) (k a : ℕ) (told : a ≡ admittedIn x (markedRefusal (li
         (subst (λ (t : ℕ). RolledBack (writtenIn x) t (liveIn (x .state) - k) groups history next) tag exact)
 
     promised : Promise store (ON (CHANGE (ROLLBACK k))) x (outcome 0) (after (rolledState (x .state) k next))
-    unfolding refusal actRefusal stateRefusal factsOf admitted refused registersStep target elements rolledState
+    unfolding refusal actRefusal factsBy refused registersStep settingsFor elements rolledState
     promised =
         let-through x (ON (CHANGE (ROLLBACK k))) a told z refl (record { registers = refl; followed = followed })
         (ap₂ (λ (g h : ℕ). record { archive = length (x .memory .archive); pool = length (x .memory .pool); groups = g; table = length (x .memory .table); owners = length (x .memory .owners); history = h })

@@ -17,11 +17,11 @@ use Rattle.rules.specs.Line.{Line, zeros}
 use Rattle.rules.specs.Call.{refused}
 use Rattle.rules.specs.Call.Answer.{outcome}
 use Rattle.rules.specs.Call.Call.{RESET}
-use Rattle.rules.specs.Refusal.{unless, askedRefusal, refusal}
+use Rattle.rules.specs.Refusal.{unless, askedRefusal, refusal, factsBy}
 use Rattle.rules.specs.Registers.{atStart}
 use Rattle.rules.specs.Figure2.{initial}
 use Rattle.rules.specs.Figure3.{WellCache}
-use Rattle.rules.specs.Promise.{Promise, Started, factsOf, target}
+use Rattle.rules.specs.Promise.{Promise, Started, settingsFor}
 use Rattle.rules.proofs.Settings.{Good, within-good, good-within}
 use Rattle.rules.proofs.Chain.{passed}
 use Rattle.rules.proofs.Registers.{facts-fit, live-start}
@@ -197,7 +197,7 @@ module _ (x : Storage) (lines frames pages a : ℕ) (told : a ≡ askedRefusal (
   asked = settingsOf lines frames pages
 
   pub reset-refused : a ≢ 0 → Promise store (RESET asked) x (outcome a) x
-  unfolding refusal factsOf refused
+  unfolding refusal factsBy refused
   reset-refused z = turned-down x (RESET asked) a told z
 
   module _ (z : a ≡ 0) where
@@ -208,7 +208,7 @@ module _ (x : Storage) (lines frames pages a : ℕ) (told : a ≡ askedRefusal (
     long-asked = reset-long lines frames pages a (lengthsIn (x .memory)) told z
 
     promised : Promise store (RESET asked) x (outcome 0) (begun asked x good-asked long-asked)
-    unfolding refusal factsOf refused target elements zeroed blanked
+    unfolding refusal factsBy refused settingsFor elements zeroed blanked
     promised =
         let-through x (RESET asked) a told z refl (begun-started asked x good-asked long-asked) (lengths asked x good-asked long-asked)
         (ap₂ (λ (a : List ℕ) (p : List ℕ × List ℕ). memoryOf a (drop (128 * pages) (x .memory .pool)) (p .0) (drop (frames * (lines / 8)) (x .memory .table)) (drop pages (x .memory .owners)) (p .1))

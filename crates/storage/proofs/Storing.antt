@@ -13,9 +13,9 @@ use Rattle.rules.specs.Call.Answer.{outcome}
 use Rattle.rules.specs.Call.Change.{WRITE}
 use Rattle.rules.specs.Call.Act.{CHANGE}
 use Rattle.rules.specs.Call.Call.{ON}
-use Rattle.rules.specs.Refusal.{unless, writeRefusal, stateRefusal, refusal, actRefusal, lacks}
+use Rattle.rules.specs.Refusal.{unless, writeRefusal, refusal, actRefusal, lacks, factsBy}
 use Rattle.rules.specs.Figure2.{registersStep}
-use Rattle.rules.specs.Promise.{Promise, Followed, factsOf, target}
+use Rattle.rules.specs.Promise.{Promise, Followed, settingsFor}
 use Rattle.rules.proofs.Promise.{lacking-own, refuse, accept}
 use Rattle.rules.proofs.Chain.{Placed}
 use Rattle.rules.proofs.Width.{line-below}
@@ -37,7 +37,6 @@ use Rattle.versions.specs.Steps.{pageFor, hintFor}
 use Rattle.versions.proofs.Finding.{entry-within}
 use Rattle.storage.specs.Storage.{Storage, stateOf, Memory, memoryOf, settingsIn, registersIn, lengthsIn, pastIn, liveIn, writtenIn, WellStore, store}
 use Rattle.storage.specs.Steps.{hintedRegisters, usedState, contentAfter, currentPlace, WroteTo, Put, AsksWrite}
-use Rattle.storage.specs.Admit.{admitted}
 use Rattle.storage.proofs.Admitting.{Room, room-lent, room-newest}
 use Rattle.storage.proofs.Chains.{write-stands, write-decides, write-room}
 use Rattle.storage.proofs.Looking.{admittedIn, turned-down}
@@ -75,7 +74,7 @@ module _ (x : Storage) (wd a v r : ℕ) (told : r ≡ admittedIn x (writeRefusal
   chain rest z = write-stands (registersIn (x .state)) (lengthsIn (x .memory)) wd a v r told z rest
 
   pub write-refused : r ≢ 0 → Promise store (ON (CHANGE (WRITE wd a v))) x (outcome r) x
-  unfolding refusal actRefusal stateRefusal factsOf admitted refused
+  unfolding refusal actRefusal factsBy refused
   write-refused z = turned-down x (ON (CHANGE (WRITE wd a v))) r (chain _ z) z
 
   module _ (z : r ≡ 0) where
@@ -115,7 +114,7 @@ module _ (x : Storage) (wd a v r : ℕ) (told : r ≡ admittedIn x (writeRefusal
 
     -- 13
     pub write-full : choice (x .state .registers .hint) ≡ Nothing → Promise store (ON (CHANGE (WRITE wd a v))) x (outcome 13) x
-    unfolding refusal actRefusal stateRefusal factsOf admitted refused unless lacks
+    unfolding refusal actRefusal factsBy refused unless lacks
     write-full e =
         subst (λ (n : ℕ). Promise store (ON (CHANGE (WRITE wd a v))) x (outcome n) x) (sym (decides 13))
         (refuse store (ON (CHANGE (WRITE wd a v))) x (λ c. true) (λ q. lacking-own store x (CHANGE (WRITE wd a v)) true (sym (none-chosen x q l below (x .state .registers .hint) e))) (λ d. let n : _≡_ {A = ℕ} 13 0 = decides 13 ∙ d in absurd (omega arith)))
@@ -217,7 +216,7 @@ module _ (x : Storage) (wd a v r : ℕ) (told : r ≡ admittedIn x (writeRefusal
             (stored-followed x q wd a v placed-there below behind page c)
 
       pub write-done : Promise store (ON (CHANGE (WRITE wd a v))) x (outcome 0) t
-      unfolding refusal actRefusal stateRefusal factsOf admitted refused unless target lacks registersStep
+      unfolding refusal actRefusal factsBy refused unless settingsFor lacks registersStep
       write-done =
           accept store (ON (CHANGE (WRITE wd a v))) x (λ c. false) (λ q. lacking-own store x (CHANGE (WRITE wd a v)) false (sym (c q .free))) (sym (decides 0)) refl
           (record { registers = refl; followed = followed }) lengths past

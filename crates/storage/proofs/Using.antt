@@ -15,10 +15,10 @@ use Rattle.rules.specs.Call.Look.{LINE}
 use Rattle.rules.specs.Call.Act.{READ, LOOK}
 use Rattle.rules.specs.Call.Call.{ON}
 use Rattle.rules.specs.Seen.{accepted}
-use Rattle.rules.specs.Refusal.{placeRefusal, lineRefusal, stateRefusal, refusal, actRefusal}
+use Rattle.rules.specs.Refusal.{placeRefusal, lineRefusal, refusal, actRefusal, factsBy}
 use Rattle.rules.specs.Figure2.{figureStep, registersStep, figureSeen, foundIn, isWritten, mrv}
 use Rattle.rules.specs.Figure3.{WellCache, holds, use-line, cacheStep}
-use Rattle.rules.specs.Promise.{Promise, Followed, seenOf, factsOf, target}
+use Rattle.rules.specs.Promise.{Promise, Followed, seenOf, settingsFor}
 use Rattle.rules.proofs.Chain.{Placed, place-passed}
 use Rattle.rules.proofs.Width.{line-below}
 use Rattle.rules.proofs.WellCache.{use-well}
@@ -42,7 +42,6 @@ use Rattle.versions.proofs.Finding.{spot-below, latest-hit, latest-miss}
 use Rattle.storage.specs.declared.State.{State}
 use Rattle.storage.specs.Storage.{Storage, stateOf, settingsIn, registersIn, lengthsIn, liveIn, writtenIn, frameIn, archiveIn, versionAt, latestIn, newestFrame, Recent, WellStore, store}
 use Rattle.storage.specs.Steps.{hintedRegisters, usedState, readState}
-use Rattle.storage.specs.Admit.{admitted}
 use Rattle.storage.proofs.Chains.{admitted-rest, line-room}
 use Rattle.storage.proofs.Looking.{admittedIn, turned-down, let-through}
 use Rattle.storage.proofs.Numbers.{used-number}
@@ -104,7 +103,7 @@ module _ (x : Storage) (w a : ℕ) where
 
   module _ (r : ℕ) (told : r ≡ admittedIn x (placeRefusal (settingsIn (x .state)) w a 0)) where
     pub read-refused : r ≢ 0 → Promise store (ON (READ w a)) x (reading r 0 (from in-archive)) x
-    unfolding refusal actRefusal stateRefusal factsOf admitted refused
+    unfolding refusal actRefusal factsBy refused
     read-refused z = turned-down x (ON (READ w a)) r told z
 
     module _ (z : r ≡ 0) where
@@ -143,7 +142,7 @@ module _ (x : Storage) (w a : ℕ) where
         read-registers = ap (λ (y : State). store .registers (record { state = y; memory = x .memory })) is
 
         read-told : Promise store (ON (READ w a)) x (reading 0 value (originOf (v .origin))) (record { state = s; memory = x .memory })
-        unfolding refusal actRefusal stateRefusal factsOf admitted refused registersStep target
+        unfolding refusal actRefusal factsBy refused registersStep settingsFor
         read-told = let-through x (ON (READ w a)) r told z refl (record { registers = read-registers; followed = read-step }) refl refl
 
       -- What the code has of it: an entry of the cache that holds the line,
@@ -196,7 +195,7 @@ module _ (x : Storage) (w a : ℕ) where
 -- LINE lends the bytes where they stand.
 module _ (x : Storage) (l r : ℕ) (told : r ≡ admittedIn x (lineRefusal (settingsIn (x .state)) l)) where
   pub line-refused : r ≢ 0 → Promise store (ON (LOOK (LINE l))) x (lending []) x
-  unfolding refusal actRefusal stateRefusal factsOf admitted refused
+  unfolding refusal actRefusal factsBy refused
   line-refused z = turned-down x (ON (LOOK (LINE l))) r told z
 
   module _ (z : r ≡ 0) (live : ℕ) (live-is : live ≡ liveIn (x .state)) (found : Found) (found-is : found ≡ newestFrom (writtenIn x) l (live - 1))
@@ -206,7 +205,7 @@ module _ (x : Storage) (l r : ℕ) (told : r ≡ admittedIn x (lineRefusal (sett
     content-is bytes e q = ap lending (e ∙ (ap (contentOf (x .memory .archive) (x .memory .pool) l) (spot-is ∙ ap (spotOf (x .state .registers .lines) (x .state .registers .frames) (x .state .registers .omf) (x .state .registers .pages) (x .memory .table) l) (found-is ∙ ap (λ (m : ℕ). newestFrom (writtenIn x) l (m - 1)) live-is)) ∙ content-latest x (well-findable x q) l (line-room (registersIn (x .state)) (lengthsIn (x .memory)) r l told z .line-below)))
 
     told-so : (bytes : List ℕ) → bytes ≡ contentOf (x .memory .archive) (x .memory .pool) l spot → Promise store (ON (LOOK (LINE l))) x (lending bytes) x
-    unfolding refusal actRefusal stateRefusal factsOf admitted refused
+    unfolding refusal actRefusal factsBy refused
     told-so bytes e = let-through x (ON (LOOK (LINE l))) r told z refl (record { kept = refl; answer = content-is bytes e }) refl refl
 
     -- a part of the pool or of the archive, by its two ends

@@ -15,7 +15,6 @@ use Rattle.rules.specs.Line.{Line, lineOf, offsetOf, edit}
 use Rattle.rules.specs.Call.Answer.{outcome}
 use Rattle.rules.specs.Call.Change.{WRITE}
 use Rattle.rules.specs.Call.Act.{CHANGE}
-use Rattle.rules.specs.Call.Call.{ON}
 use Rattle.rules.specs.Seen.{accepted}
 use Rattle.rules.specs.Figure2.{versionIn, foundIn, isWritten, mrv, written, figureStep, figureSeen}
 use Rattle.rules.specs.Figure3.{WellCache, use-line, cacheStep}

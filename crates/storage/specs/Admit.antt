@@ -2,10 +2,10 @@
 use Prim.Native.Nat.{ℕ, _/_}
 use mathlib.Core.Bool.{Bool, _&&_}
 use lib.Dec.{leb}
-use Rattle.rules.specs.Settings.{Pieces, enough}
+use Rattle.rules.specs.Settings.{Pieces}
 use Rattle.rules.specs.declared.Need.{Need}
-use Rattle.rules.specs.Registers.{Registers, stateFits}
-use Rattle.rules.specs.Refusal.{unless}
+use Rattle.rules.specs.Registers.{Registers}
+use Rattle.rules.specs.Refusal.{factsBy, stateRefusal}
 use Rattle.storage.specs.declared.Lengths.{Lengths}
 
 -- The measured lengths as the rules have them.
@@ -42,6 +42,6 @@ covers least lengths =
     && leb (least .owners) (lengths .owners)
     && leb (least .history) (lengths .history)
 
--- 5 and 6, before the rest of a call's chain: the rules' `stateRefusal`, by what the code has.
-unfoldable pub admitted : Registers → Pieces → (rest : ℕ) → ℕ
-admitted r lengths rest = unless (stateFits r) 5 (unless (enough (r .settings) lengths) 6 rest)
+-- 5 and 6, before the rest of a call's chain.
+abbrev pub admitted : Registers → Pieces → (rest : ℕ) → ℕ
+admitted r lengths rest = stateRefusal (factsBy r lengths) rest

@@ -9,9 +9,9 @@ use Rattle.rules.specs.Settings.{Settings, Pieces}
 use Rattle.rules.specs.Call.{Call, Answer, numberIn, refused}
 use Rattle.rules.specs.Call.Answer.{outcome}
 use Rattle.rules.specs.Call.Call.{RESET}
-use Rattle.rules.specs.Refusal.{askedRefusal, refusal}
+use Rattle.rules.specs.Refusal.{askedRefusal, refusal, factsBy}
 use Rattle.rules.specs.Plain.{Model, plainRefusal, modelAnswer, modelStep, answersFrom, freshModel}
-use Rattle.rules.specs.Promise.{Promise, Run, factsOf}
+use Rattle.rules.specs.Promise.{Promise, Run}
 use Rattle.rules.specs.Promise.Run.{stop, next}
 use Rattle.rules.specs.Demand3.{Demand3, AnswersAsHistory}
 use Rattle.rules.proofs.Demand3.{demand-3, reached-well, answers-as-history}
@@ -33,7 +33,7 @@ store-history = answers-as-history store lawful
 
 -- What a caller has of its RESET: the answer is document 01's refusal or 0,
 pub store-answered : (s t : Storage) (asked : Settings) (a : Answer) → Promise store (RESET asked) s a t → a ≡ outcome (askedRefusal (lengthsIn (s .memory)) asked)
-unfolding refusal factsOf refused
+unfolding refusal factsBy refused
 store-answered s t asked a h = go (askedRefusal (lengthsIn (s .memory)) asked) refl
   where
     go : (n : ℕ) → askedRefusal (lengthsIn (s .memory)) asked ≡ n → a ≡ outcome (askedRefusal (lengthsIn (s .memory)) asked)

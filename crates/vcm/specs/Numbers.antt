@@ -33,7 +33,7 @@ pub record ReadsAs (x : Kept) (width address refusal value origin back : ℕ) (t
   pub origin-is : origin ≡ originNumber found
   pub back-is : back ≡ marksBack found
 
--- 16 bytes that a part of 16 is copied over; an empty part leaves them.
+-- 16 bytes that a part of 16 is copied over; any other, as a refused LINE's empty one, leaves them.
 unfoldable pub copied : (part bytes : List ℕ) → List ℕ
 copied part bytes = cond (eqb (length part) 16) part bytes
 

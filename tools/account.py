@@ -1,7 +1,8 @@
 #!/usr/bin/env python3
 """The account of rust/account: reads callgrind's counts from a folder and prints where the instructions went.
 
-The folder has fine.out (a short replay of `fine` on ours), ours.out and chip.out (each call by itself), and beside each a .txt with the calls made.
+The folder has fine.out (a short replay of `fine` on ours), ours.out and chip.out (each call by itself), runner.out (the runner on the first lines of
+the long session), and beside each a .txt with the calls or lines made.
 """
 import re
 import sys
@@ -100,11 +101,19 @@ def cases(folder):
         print(f"{ours:10.0f} {chip:10.0f} {ours / chip:7.1f}  {words}")
 
 
+def runner(folder):
+    own, _, _ = counts(folder / "runner.out")
+    lines = numbers(folder / "runner.txt")["lines"]
+    print(f"runner: {sum(own.values()) / lines:.0f} instructions a line of the long session, {lines} lines")
+
+
 def main():
     folder = Path(sys.argv[1])
     shares(folder)
     print()
     cases(folder)
+    print()
+    runner(folder)
 
 
 if __name__ == "__main__":

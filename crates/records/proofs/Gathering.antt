@@ -1,19 +1,25 @@
 -- The numbers of a line's fields, gathered field by field. Assumes nothing.
 use mathlib.Core.Path.{_≡_, refl, sym, _∙_, ap, ap₂}
 use mathlib.Core.Bool.{Bool, true, false, cond}
-use mathlib.Core.List.{List, [], _∷_}
+use mathlib.Core.Option.{Option, none, some}
+use mathlib.Core.List.{List, [], _∷_, _++_, append-assoc, append-nil}
 use Prim.Native.Nat.{ℕ, suc, _+_, _-_, _≤_, _<_}
 use native.Mathlib.Omega.{arith}
-use borrow.Author.Tests.{ltb-true, ltb-false}
-use lib.Dec.{ltb}
-use lib.ListN.{length, take, drop, length-drop, drop-of-length-le}
-use lib.Seq.{drop-cons, drop-drop}
+use borrow.Author.Tests.{ltb-true, ltb-false, le-leb, lt-leb}
+use lib.Dec.{leb, ltb}
+use lib.ListN.{length, set, take, drop, length-set, length-drop, length-append, drop-of-length-le}
+use lib.Seq.{drop-cons, drop-drop, length-take-le, take-suc-set}
 use Rattle.text.specs.Parts.{Text, fieldsOf, upTo}
 use Rattle.text.specs.Numbers.{numberIn}
 use Rattle.text.specs.declared.Number.{Number}
+use Rattle.text.specs.declared.Number.the-variants.{Is, Not}
 use Rattle.text.proofs.Fields.{up-to-length, split-first}
 use Rattle.records.specs.declared.Numbers.{Numbers}
-use Rattle.records.specs.Gathered.{numbersOf, withNumber, gathered, fieldsBehind, gatheredFrom}
+use Rattle.records.specs.Records.{followed, numbersIn}
+use Rattle.records.specs.Shown.{most, few, fieldsBehind, shownNumbers, Gathers}
+
+abbrev pub numbersWith : Bool → ℕ → List ℕ → Numbers
+numbersWith good count numbers = record { good = good; count = count; numbers = numbers }
 
 -- What stands from a place on.
 module _ (text : Text) (u : ℕ) where
@@ -48,32 +54,122 @@ module _ (line : Text) (from end : ℕ) (e : end ≡ from + upTo 9 (drop from li
       long
       (drop-drop (upTo 9 (drop from line)) from line ∙ ap (λ (k : ℕ). drop k line) (sym e))
 
+-- Numbers found before others.
+abbrev behind-them : List ℕ → Option (List ℕ) → Option (List ℕ)
+behind-them before none = none
+behind-them before (some ns) = some (before ++ ns)
+
+one-more : (before : List ℕ) (n : ℕ) (later : Option (List ℕ)) → behind-them before (followed (Is n) later) ≡ behind-them (before ++ (n ∷ [])) later
+unfolding followed
+one-more before n none = refl
+one-more before n (some ns) = ap some (sym (append-assoc before (n ∷ []) ns))
+
+no-number : (before : List ℕ) (later : Option (List ℕ)) → behind-them before (followed Not later) ≡ none
+unfolding followed
+no-number before none = refl
+no-number before (some ns) = refl
+
+too-many : (before : List ℕ) (later : Option (List ℕ)) → most < length before → few (behind-them before later) ≡ none
+unfolding few
+too-many before none h = refl
+too-many before (some ns) h =
+    ap (λ (t : Bool). cond t (some (before ++ ns)) none) (lt-leb (length (before ++ ns)) most (omega (arith, h, length-append before ns)))
+
+enough : (before : List ℕ) → length before ≤ most → few (behind-them before (some [])) ≡ some before
+unfolding few
+enough before h =
+    ap (λ (ns : List ℕ). cond (leb (length ns) most) (some ns) none) (append-nil before)
+    ∙ ap (λ (t : Bool). cond t (some before) none) (le-leb (length before) most h)
+
 -- The numbers found, with those of the fields behind a place, are the numbers of all fields.
-pub record Gathering (line : Text) (end : ℕ) (found : Numbers) (at : ℕ) : Type 0 where
-  pub few : at ≤ length line
-  pub same : gatheredFrom (drop end line) ≡ gathered found (fieldsBehind (drop at line))
+pub record Gathering (line : Text) (end : ℕ) (numbers : List ℕ) (found at : ℕ) : Type 0 where
+  pub within : at ≤ length line
+  pub long : length numbers ≡ most
+  pub some-found : found ≤ most
+  pub same : few (numbersIn (fieldsBehind (drop end line))) ≡ few (behind-them (take found numbers) (numbersIn (fieldsBehind (drop at line))))
 
-pub gathering-start : (line : Text) (end : ℕ) → end ≤ length line → Gathering line end (numbersOf 0 0 0 0) end
-unfolding gatheredFrom
-gathering-start line end h = record { few = h; same = refl }
+pub gathering-start : (line : Text) (end : ℕ) (numbers : List ℕ) → length numbers ≡ most → end ≤ length line → Gathering line end numbers 0 end
+gathering-start line end numbers long h = record { within = h; long = long; some-found = omega arith; same = ap few (same-option (numbersIn (fieldsBehind (drop end line)))) }
+  where
+    same-option : (o : Option (List ℕ)) → o ≡ behind-them [] o
+    same-option none = refl
+    same-option (some ns) = refl
 
-module _ {line : Text} {end at : ℕ} {found : Numbers} (g : Gathering line end found at) where
-  pub gathering-next : at < length line → (next : ℕ) (number : Number) (more : Numbers)
-      → next ≡ at + 1 + upTo 9 (drop (at + 1) line)
+module _ {line : Text} {end at : ℕ} {numbers : List ℕ} {found : ℕ} (g : Gathering line end numbers found at) where
+  -- the next field and those behind it
+  next-field : (next : ℕ) (number : Number) → at < length line → next ≡ at + 1 + upTo 9 (drop (at + 1) line)
       → number ≡ numberIn (take (next - (at + 1)) (drop (at + 1) line))
-      → more ≡ withNumber found number
-      → Gathering line end more next
-  unfolding gathered
-  gathering-next h next number more e n m =
+      → numbersIn (fieldsBehind (drop at line)) ≡ followed number (numbersIn (fieldsBehind (drop next line)))
+  unfolding numbersIn
+  next-field next number h e n =
       let step : suc at ≡ at + 1 = omega arith in
-      record {
-        few = end-few line (at + 1) next e (omega arith);
-        same =
-            g .same
-            ∙ (ap (gathered found) (behind-tab line at h ∙ (ap (λ (k : ℕ). fieldsOf (drop k line)) step ∙ field-next line (at + 1) next e))
-            ∙ ap (λ (f : Numbers). gathered f (fieldsBehind (drop next line))) (sym (m ∙ ap (withNumber found) n)));
-      }
+      ap numbersIn (behind-tab line at h ∙ (ap (λ (k : ℕ). fieldsOf (drop k line)) step ∙ field-next line (at + 1) next e))
+      ∙ ap (λ (x : Number). followed x (numbersIn (fieldsBehind (drop next line)))) (sym n)
 
-  pub gathering-end : length line ≤ at → found ≡ gatheredFrom (drop end line)
-  unfolding gathered
-  gathering-end h = sym (g .same ∙ ap (gathered found) (behind-end line at h))
+  found-length : length (take found numbers) ≡ found
+  found-length = length-take-le found numbers (omega (arith, g .long, g .some-found))
+
+  module _ (next : ℕ) (number : Number) (h : at < length line) (e : next ≡ at + 1 + upTo 9 (drop (at + 1) line))
+      (n : number ≡ numberIn (take (next - (at + 1)) (drop (at + 1) line))) where
+    whole : few (numbersIn (fieldsBehind (drop end line))) ≡ few (behind-them (take found numbers) (followed number (numbersIn (fieldsBehind (drop next line)))))
+    whole = g .same ∙ ap (λ (o : Option (List ℕ)). few (behind-them (take found numbers) o)) (next-field next number h e n)
+
+    pub gathering-next : (k : ℕ) → number ≡ Is k → found < most → Gathering line end (set numbers found k) (found + 1) next
+    gathering-next k i less =
+        record {
+          within = end-few line (at + 1) next e (omega arith);
+          long = length-set numbers found k ∙ g .long;
+          some-found = omega arith;
+          same =
+              whole
+              ∙ (ap (λ (x : Number). few (behind-them (take found numbers) (followed x (numbersIn (fieldsBehind (drop next line)))))) i
+              ∙ (ap few (one-more (take found numbers) k (numbersIn (fieldsBehind (drop next line))))
+              ∙ ap (λ (before : List ℕ). few (behind-them before (numbersIn (fieldsBehind (drop next line)))))
+              (sym (ap (λ (m : ℕ). take m (set numbers found k)) (one found) ∙ take-suc-set numbers found k (omega (arith, g .long))))));
+        }
+      where
+        one : (m : ℕ) → m + 1 ≡ suc m
+        one m = omega arith
+
+    -- a field that is no number
+    pub gathering-none : number ≡ Not → Gathers (numbersIn (fieldsBehind (drop end line))) (numbersWith false 0 numbers)
+    unfolding shownNumbers few
+    gathering-none i =
+        record {
+          long = g .long;
+          counted = omega arith;
+          same =
+              sym
+              (whole
+              ∙ (ap (λ (x : Number). few (behind-them (take found numbers) (followed x (numbersIn (fieldsBehind (drop next line)))))) i
+              ∙ ap few (no-number (take found numbers) (numbersIn (fieldsBehind (drop next line))))));
+        }
+
+    -- a number too many
+    pub gathering-over : (k : ℕ) → number ≡ Is k → most ≤ found → Gathers (numbersIn (fieldsBehind (drop end line))) (numbersWith false 0 numbers)
+    unfolding shownNumbers
+    gathering-over k i full =
+        record {
+          long = g .long;
+          counted = omega arith;
+          same =
+              sym
+              (whole
+              ∙ (ap (λ (x : Number). few (behind-them (take found numbers) (followed x (numbersIn (fieldsBehind (drop next line)))))) i
+              ∙ (ap few (one-more (take found numbers) k (numbersIn (fieldsBehind (drop next line))))
+              ∙ too-many (take found numbers ++ (k ∷ [])) (numbersIn (fieldsBehind (drop next line)))
+              (omega (arith, length-append (take found numbers) (k ∷ []), found-length)))));
+        }
+
+  pub gathering-end : length line ≤ at → Gathers (numbersIn (fieldsBehind (drop end line))) (numbersWith true found numbers)
+  unfolding shownNumbers numbersIn
+  gathering-end h =
+      record {
+        long = g .long;
+        counted = g .some-found;
+        same =
+            sym
+            (g .same
+            ∙ (ap (λ (fields : List Text). few (behind-them (take found numbers) (numbersIn fields))) (behind-end line at h)
+            ∙ enough (take found numbers) (omega (arith, found-length, g .some-found))));
+      }

@@ -1,3 +1,4 @@
 pub mod Words
 pub mod Gathering
-pub mod Recognising
+pub mod Recording
+pub mod Refusing

@@ -10,9 +10,15 @@ use Rattle.text.specs.Numbers.{numberIn}
 use Rattle.text.specs.Lines.{limit}
 use Rattle.text.specs.declared.Number.{Number}
 use Rattle.text.specs.declared.Number.the-variants.{Is, Not}
-use Rattle.records.specs.declared.Parsed.{Parsed}
-use Rattle.records.specs.declared.Parsed.the-variants.{Asks, Refused}
-use Rattle.records.specs.declared.Record.the-variants.{Reset, Read, Write, Mark, Back, Advance, Counts}
+use Rattle.records.specs.declared.Word.{Word}
+use Rattle.records.specs.declared.Word.the-variants.{Reset, Read, Write, Mark, Back, Advance, Counts}
+use Rattle.records.specs.declared.Known.{Known}
+use Rattle.records.specs.declared.Known.the-variants.{Named, Unknown}
+
+-- What a line says: a record, which is a word and its numbers, or why the line is turned down.
+pub data Asked : Type 0 where
+  asks : Word → List ℕ → Asked
+  turned-down : ℕ → Asked
 
 unfoldable pub sameText : Text → Text → Bool
 sameText [] [] = true
@@ -20,38 +26,41 @@ sameText [] (y ∷ ys) = false
 sameText (x ∷ xs) [] = false
 sameText (x ∷ xs) (y ∷ ys) = eqb x y && sameText xs ys
 
--- "Records: `reset` L F P; `read` width address; `write` width address value; `mark`; `back` k; `advance` k; `counts`", by how many numbers
--- they have. 2: "The session line is not one of the records".
-module _ (word : Text) where
-  unfoldable pub bareRecord : Parsed
-  bareRecord =
-      -- mark, counts
-      cond (sameText word (109 ∷ 97 ∷ 114 ∷ 107 ∷ [])) (Asks Mark)
-      (cond (sameText word (99 ∷ 111 ∷ 117 ∷ 110 ∷ 116 ∷ 115 ∷ [])) (Asks Counts) (Refused 2))
+-- A record's row: its word as it is spelt, and how many numbers it takes.
+pub record Row : Type 0 where
+  pub spelt : Text
+  pub word : Word
+  pub takes : ℕ → Bool
 
-  unfoldable pub oneRecord : ℕ → Parsed
-  oneRecord k =
-      -- back, advance
-      cond (sameText word (98 ∷ 97 ∷ 99 ∷ 107 ∷ [])) (Asks (Back k))
-      (cond (sameText word (97 ∷ 100 ∷ 118 ∷ 97 ∷ 110 ∷ 99 ∷ 101 ∷ [])) (Asks (Advance k)) (Refused 2))
+abbrev row : Text → Word → (ℕ → Bool) → Row
+row spelt word takes = record { spelt = spelt; word = word; takes = takes }
 
-  unfoldable pub twoRecord : (width address : ℕ) → Parsed
-  twoRecord width address =
-      -- read
-      cond (sameText word (114 ∷ 101 ∷ 97 ∷ 100 ∷ [])) (Asks (Read width address)) (Refused 2)
+-- "Records: `reset` L F P; `read` width address; `write` width address value; `mark`; `back` k; `advance` k; `counts`": those that sessions are
+-- full of, and the others.
+unfoldable pub seldom : List Row
+seldom =
+    -- advance, counts, reset
+    row (97 ∷ 100 ∷ 118 ∷ 97 ∷ 110 ∷ 99 ∷ 101 ∷ []) Advance (λ n. eqb n 1)
+    ∷ row (99 ∷ 111 ∷ 117 ∷ 110 ∷ 116 ∷ 115 ∷ []) Counts (λ n. eqb n 0)
+    ∷ row (114 ∷ 101 ∷ 115 ∷ 101 ∷ 116 ∷ []) Reset (λ n. eqb n 3)
+    ∷ []
 
-  unfoldable pub threeRecord : (first second third : ℕ) → Parsed
-  threeRecord a b c =
-      -- write, reset
-      cond (sameText word (119 ∷ 114 ∷ 105 ∷ 116 ∷ 101 ∷ [])) (Asks (Write a b c))
-      (cond (sameText word (114 ∷ 101 ∷ 115 ∷ 101 ∷ 116 ∷ [])) (Asks (Reset a b c)) (Refused 2))
+unfoldable pub rows : List Row
+rows =
+    -- read, write, mark, back
+    row (114 ∷ 101 ∷ 97 ∷ 100 ∷ []) Read (λ n. eqb n 2)
+    ∷ row (119 ∷ 114 ∷ 105 ∷ 116 ∷ 101 ∷ []) Write (λ n. eqb n 3)
+    ∷ row (109 ∷ 97 ∷ 114 ∷ 107 ∷ []) Mark (λ n. eqb n 0)
+    ∷ row (98 ∷ 97 ∷ 99 ∷ 107 ∷ []) Back (λ n. eqb n 1)
+    ∷ seldom
 
-  unfoldable pub recordOf : List ℕ → Parsed
-  recordOf [] = bareRecord
-  recordOf (a ∷ []) = oneRecord a
-  recordOf (a ∷ b ∷ []) = twoRecord a b
-  recordOf (a ∷ b ∷ c ∷ []) = threeRecord a b c
-  recordOf (a ∷ b ∷ c ∷ d ∷ more) = Refused 2
+-- The word of the row that is spelt so, if it takes so many numbers.
+unfoldable pub taken : (takes : Bool) → Word → Known
+taken takes w = cond takes (Named w) Unknown
+
+unfoldable pub wordIn : List Row → (field : Text) → (count : ℕ) → Known
+wordIn [] field count = Unknown
+wordIn (r ∷ rs) field count = cond (sameText field (r .spelt)) (taken (r .takes count) (r .word)) (wordIn rs field count)
 
 -- The numbers that fields say, if each of them says one.
 unfoldable pub followed : Number → Option (List ℕ) → Option (List ℕ)
@@ -63,15 +72,20 @@ unfoldable pub numbersIn : List Text → Option (List ℕ)
 numbersIn [] = some []
 numbersIn (field ∷ fields) = followed (numberIn field) (numbersIn fields)
 
-unfoldable pub withNumbers : (word : Text) → Option (List ℕ) → Parsed
-withNumbers word none = Refused 2
-withNumbers word (some ns) = recordOf word ns
+-- 2: "The session line is not one of the records".
+unfoldable pub asked : Known → List ℕ → Asked
+asked (Named w) ns = asks w ns
+asked Unknown ns = turned-down 2
+
+unfoldable pub withNumbers : (word : Text) → Option (List ℕ) → Asked
+withNumbers word none = turned-down 2
+withNumbers word (some ns) = asked (wordIn rows word (length ns)) ns
 
 -- A word and its numbers. (A line has at least one field.)
-unfoldable pub recordIn : List Text → Parsed
-recordIn [] = Refused 2
+unfoldable pub recordIn : List Text → Asked
+recordIn [] = turned-down 2
 recordIn (word ∷ fields) = withNumbers word (numbersIn fields)
 
 -- 1: "The session line has more than 80 bytes before its line feed or the end of input."
-unfoldable pub parsed : (line : Text) → Parsed
-parsed line = cond (leb (length line) limit) (recordIn (fieldsOf line)) (Refused 1)
+unfoldable pub parsed : (line : Text) → Asked
+parsed line = cond (leb (length line) limit) (recordIn (fieldsOf line)) (turned-down 1)

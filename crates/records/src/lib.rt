@@ -1,38 +1,46 @@
 // The records of a session: what a line asks for.
 use text::Number;
-use text::Reader;
 ghost use mathlib.Core.Path.{_≡_};
 ghost use Prim.Native.Nat.{_≤_};
-ghost use lib.ListN.{length, drop};
-ghost use Rattle.text.specs.Lines.{Holds};
-ghost use Rattle.text.specs.Parts.{Text, fieldsOf};
-ghost use Rattle.records.specs.Records.{sameText, bareRecord, oneRecord, twoRecord, threeRecord, recordIn, parsed};
-ghost use Rattle.records.specs.Gathered.{withNumber, recognised, gatheredFrom};
+ghost use lib.ListN.{length, drop, getD};
+ghost use Rattle.records.specs.Records.{sameText, taken, seldom, rows, wordIn, numbersIn, parsed};
+ghost use Rattle.records.specs.Shown.{fieldsBehind, Gathers, numbersOf, shownParsed};
 
-// A record, with its numbers.
-pub enum Record {
-    Reset(u32, u32, u32),
-    Read(u32, u32),
-    Write(u32, u32, u32),
+// What a record asks for.
+pub enum Word {
+    Reset,
+    Read,
+    Write,
     Mark,
-    Back(u32),
-    Advance(u32),
+    Back,
+    Advance,
     Counts,
 }
 
-// What a line says: a record, or why it is turned down.
-pub enum Parsed {
-    Asks(Record),
-    Refused(u32),
+// A record: a word and the first so many numbers.
+pub struct Record {
+    pub word: Word,
+    pub count: usize,
+    pub numbers: [u32; 3],
 }
 
-// The numbers after a line's word: how many and which, 0 for those that are not there. A record has at most three; a count of 4 stands
-// for fields that no record has.
+// What a line says: a record, or why it is turned down.
+pub struct Parsed {
+    pub refusal: u32,
+    pub entry: Record,
+}
+
+// The word of a record, if there is one.
+enum Known {
+    Named(Word),
+    Unknown,
+}
+
+// The numbers of a line, if each of its fields says one and no record has more.
 struct Numbers {
-    count: u32,
-    first: u32,
-    second: u32,
-    third: u32,
+    good: bool,
+    count: usize,
+    numbers: [u32; 3],
 }
 
 // Whether a field is this word.
@@ -53,159 +61,140 @@ fn is_word(field: &[u8], word: &[u8]) -> bool
     true
 }
 
-// One number more, or a field that is none.
-fn with_number(found: Numbers, number: Number) -> Numbers
-    ensures { λ r. ⌜ r ≡ withNumber found number ⌝ }
+// The word, if it takes so many numbers.
+fn taking(word: Word, takes: bool) -> Known
+    ensures { λ r. ⌜ r ≡ taken takes word ⌝ }
 {
-    match number {
-        Number::Is(n) => {
-            if found.count == 0 {
-                return Numbers {
-                    count: 1,
-                    first: n,
-                    second: 0,
-                    third: 0,
-                };
-            }
-            if found.count == 1 {
-                return Numbers {
-                    count: 2,
-                    first: found.first,
-                    second: n,
-                    third: 0,
-                };
-            }
-            if found.count == 2 {
-                return Numbers {
-                    count: 3,
-                    first: found.first,
-                    second: found.second,
-                    third: n,
-                };
-            }
-            Numbers {
-                count: 4,
-                first: 0,
-                second: 0,
-                third: 0,
-            }
-        }
-        Number::Not => Numbers {
-            count: 4,
-            first: 0,
-            second: 0,
-            third: 0,
-        },
+    if takes {
+        return Known::Named(word);
     }
+    Known::Unknown
+}
+
+// The word that a field is, if it takes so many numbers: one row a record, those that come seldom first.
+fn seldom_word(field: &[u8], count: usize) -> Known
+    ensures { λ r. ⌜ r ≡ wordIn seldom (now (field .entry)) count ⌝ }
+{
+    if is_word(field, b"advance") {
+        return taking(Word::Advance, count == 1);
+    }
+    if is_word(field, b"counts") {
+        return taking(Word::Counts, count == 0);
+    }
+    if is_word(field, b"reset") {
+        return taking(Word::Reset, count == 3);
+    }
+    Known::Unknown
+}
+
+fn word_in(field: &[u8], count: usize) -> Known
+    ensures { λ r. ⌜ r ≡ wordIn rows (now (field .entry)) count ⌝ }
+{
+    if is_word(field, b"read") {
+        return taking(Word::Read, count == 2);
+    }
+    if is_word(field, b"write") {
+        return taking(Word::Write, count == 3);
+    }
+    if is_word(field, b"mark") {
+        return taking(Word::Mark, count == 0);
+    }
+    if is_word(field, b"back") {
+        return taking(Word::Back, count == 1);
+    }
+    seldom_word(field, count)
 }
 
 // The numbers of the fields behind a field's end.
 fn gather(line: &[u8], end: usize) -> Numbers
     requires { ⌜ end ≤ length (now line) ⌝ }
-    ensures { λ r. ⌜ r ≡ gatheredFrom (drop end (now (line .entry))) ⌝ }
+    ensures { λ r. ⌜ Gathers (numbersIn (fieldsBehind (drop end (now (line .entry))))) r ⌝ }
 {
     let count = line.len();
-    let mut found = Numbers {
-        count: 0,
-        first: 0,
-        second: 0,
-        third: 0,
-    };
+    let mut numbers = [0u32; 3];
+    let mut found = 0;
     let mut at = end;
     while at < count {
         let start = at + 1;
-        at = text::field_end(line, start);
-        found = with_number(found, text::read_number(&line[start..at]));
+        at = text::part_end(line, start, 9);
+        let number = text::read_number(&line[start..at]);
+        let Number::Is(n) = number else {
+            return Numbers {
+                good: false,
+                count: 0,
+                numbers,
+            };
+        };
+        if 3 <= found {
+            return Numbers {
+                good: false,
+                count: 0,
+                numbers,
+            };
+        }
+        numbers[found] = n;
+        found = found + 1;
     }
-    found
+    Numbers {
+        good: true,
+        count: found,
+        numbers,
+    }
 }
 
-// A record without numbers.
-fn bare_record(word: &[u8]) -> Parsed
-    ensures { λ r. ⌜ r ≡ bareRecord (now (word .entry)) ⌝ }
+// A line that is no record.
+fn refused(refusal: u32) -> Parsed
+    ensures { λ r. ⌜ r .refusal ≡ refusal ⌝ }
 {
-    if is_word(word, b"mark") {
-        return Parsed::Asks(Record::Mark);
+    let numbers = [0u32; 3];
+    Parsed {
+        refusal,
+        entry: Record {
+            word: Word::Mark,
+            count: 0,
+            numbers,
+        },
     }
-    if is_word(word, b"counts") {
-        return Parsed::Asks(Record::Counts);
-    }
-    Parsed::Refused(2)
 }
 
-// A record with one number.
-fn one_record(word: &[u8], k: u32) -> Parsed
-    ensures { λ r. ⌜ r ≡ oneRecord (now (word .entry)) k ⌝ }
+// What a line says.
+pub fn parse(line: &[u8]) -> Parsed
+    ensures { λ r. ⌜ shownParsed r ≡ parsed (now (line .entry)) ⌝ }
 {
-    if is_word(word, b"back") {
-        return Parsed::Asks(Record::Back(k));
+    if 80 < line.len() {
+        return refused(1);
     }
-    if is_word(word, b"advance") {
-        return Parsed::Asks(Record::Advance(k));
+    let end = text::part_end(line, 0, 9);
+    let found = gather(line, end);
+    if !found.good {
+        return refused(2);
     }
-    Parsed::Refused(2)
+    let count = found.count;
+    let known = word_in(&line[..end], count);
+    let Known::Named(word) = known else {
+        return refused(2);
+    };
+    let numbers = found.numbers;
+    Parsed {
+        refusal: 0,
+        entry: Record {
+            word,
+            count,
+            numbers,
+        },
+    }
 }
 
-// A record with two numbers.
-fn two_record(word: &[u8], width: u32, address: u32) -> Parsed
-    ensures { λ r. ⌜ r ≡ twoRecord (now (word .entry)) width address ⌝ }
+// A number of a record; 0 for one that it has not.
+pub fn number(asked: Record, i: usize) -> u32
+    ensures { λ r. ⌜ r ≡ getD (numbersOf asked) i 0 ⌝ }
 {
-    if is_word(word, b"read") {
-        return Parsed::Asks(Record::Read(width, address));
+    let numbers = asked.numbers;
+    if asked.count <= i {
+        return 0;
     }
-    Parsed::Refused(2)
-}
-
-// A record with three numbers.
-fn three_record(word: &[u8], first: u32, second: u32, third: u32) -> Parsed
-    ensures { λ r. ⌜ r ≡ threeRecord (now (word .entry)) first second third ⌝ }
-{
-    if is_word(word, b"write") {
-        return Parsed::Asks(Record::Write(first, second, third));
+    if 3 <= i {
+        return 0;
     }
-    if is_word(word, b"reset") {
-        return Parsed::Asks(Record::Reset(first, second, third));
-    }
-    Parsed::Refused(2)
-}
-
-// The record of a word and its numbers.
-fn recognise(word: &[u8], numbers: Numbers) -> Parsed
-    ensures { λ r. ⌜ r ≡ recognised (now (word .entry)) numbers ⌝ }
-{
-    let count = numbers.count;
-    if count == 0 {
-        return bare_record(word);
-    }
-    if count == 1 {
-        return one_record(word, numbers.first);
-    }
-    if count == 2 {
-        return two_record(word, numbers.first, numbers.second);
-    }
-    if count == 3 {
-        return three_record(word, numbers.first, numbers.second, numbers.third);
-    }
-    Parsed::Refused(2)
-}
-
-// The record that a line of at most 80 bytes says.
-fn parse_fields(line: &[u8]) -> Parsed
-    ensures { λ r. ⌜ r ≡ recordIn (fieldsOf (now (line .entry))) ⌝ }
-{
-    let end = text::field_end(line, 0);
-    let numbers = gather(line, end);
-    recognise(&line[..end], numbers)
-}
-
-// What the line that was read says.
-pub fn parse(reader: Reader) -> Parsed
-    ensures { λ r. ⌜ ((line : Text) → Holds reader line → r ≡ parsed line) ⌝ }
-{
-    let count = reader.count;
-    if 80 < count {
-        return Parsed::Refused(1);
-    }
-    let kept = reader.kept;
-    parse_fields(&kept[..count as usize])
+    numbers[i]
 }

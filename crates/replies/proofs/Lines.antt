@@ -7,19 +7,19 @@ use Prim.Native.Nat.{ℕ, _+_, _≤_}
 use native.Mathlib.Omega.{arith}
 use borrow.Author.Tests.{eq-eqb, ne-eqb}
 use lib.Dec.{eqb}
-use lib.ListN.{length, take, length-take, length-append}
+use lib.ListN.{length, length-append}
 use Rattle.text.specs.Parts.{Text}
 use Rattle.text.specs.Numbers.{decimal}
 use Rattle.text.specs.Output.{Puts}
-use Rattle.text.proofs.Putting.{decimal-few, puts-head}
+use Rattle.text.proofs.Putting.{decimal-few}
 use Rattle.rules.specs.Call.{Origin, Answer, numberIn}
 use Rattle.rules.specs.Call.Place.{in-frame, in-archive}
 use Rattle.rules.specs.Call.Origin.{from-cache, from}
 use Rattle.rules.specs.Call.Answer.{outcome, reading, lending, counting, verdict}
 use Rattle.replies.specs.declared.Shown.{Shown}
 use Rattle.replies.specs.declared.Shown.the-variants.{Nothing, Read, Counts}
-use Rattle.replies.specs.Answers.{originText, valuesText, okLine, noLine, answerLine, endLine}
-use Rattle.replies.specs.Lines.{answerOf, HoldsText}
+use Rattle.replies.specs.Answers.{originText, valuesText, okLine, noLine, answerLine, endLine, longest, longestEnd}
+use Rattle.replies.specs.Lines.{answerOf}
 
 -- The places behind a tab and a number, and behind the fields of an answer.
 pub number-ends : {before after : Text} {at behind : ℕ} (n : ℕ) → Puts before at (9 ∷ decimal n) after behind → behind ≤ at + 21
@@ -42,22 +42,18 @@ values-few (verdict n says) = omega arith
 pub values-ends : {before after : Text} {at behind : ℕ} (a : Answer) → Puts before at (valuesText a) after behind → behind ≤ at + 42
 values-ends a p = omega (arith, values-few a)
 
--- No line is longer than 64 bytes.
-pub answer-few : (a : Answer) → length (answerLine a) ≤ 64
+-- No line is longer than the longest.
+pub answer-few : (a : Answer) → length (answerLine a) ≤ longest
 unfolding answerLine okLine noLine
 answer-few a = go (eqb (numberIn a) 0)
   where
-    go : (t : Bool) → length (cond t (okLine a) (noLine (numberIn a))) ≤ 64
+    go : (t : Bool) → length (cond t (okLine a) (noLine (numberIn a))) ≤ longest
     go true = simp length-append (omega (arith, values-few a))
     go false = simp length-append (omega (arith, decimal-few (numberIn a)))
 
-pub end-few : (oks noes : ℕ) → length (endLine oks noes) ≤ 64
+pub end-few : (oks noes : ℕ) → length (endLine oks noes) ≤ longestEnd
 unfolding endLine
 end-few oks noes = simp length-append (omega (arith, decimal-few oks, decimal-few noes))
-
--- A text of at most 64 bytes, put at the start, is what the line holds-text.
-pub holds-text : {before text bytes : Text} {count : ℕ} → Puts before 0 text bytes count → length text ≤ 64 → HoldsText (record { bytes = bytes; count = count }) text
-holds-text {before} {text} {bytes} {count} p h = record { few = omega arith; bytes = puts-head before 0 text bytes count (omega arith) p }
 
 -- The texts of an answer line.
 pub number-of : (n : ℕ) (shown : Shown) → numberIn (answerOf n shown) ≡ n
@@ -79,7 +75,3 @@ line-of-no n shown h = rw (number-of, ne-eqb n 0 h)
 pub line-of-ok : (n : ℕ) (shown : Shown) → n ≡ 0 → (111 ∷ 107 ∷ []) ++ (valuesText (answerOf 0 shown) ++ (10 ∷ [])) ≡ answerLine (answerOf n shown)
 unfolding answerLine okLine
 line-of-ok n shown h = rw (number-of, eq-eqb n 0 h, values-of n)
-
--- There is room for what a line holds-text.
-pub line-room : (bytes : Text) (count at long : ℕ) → count ≤ 64 → at + 64 ≤ long → at + length (take count bytes) ≤ long
-line-room bytes count at long h k = omega (arith, length-take count bytes)

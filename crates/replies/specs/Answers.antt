@@ -38,3 +38,11 @@ answerLine a = cond (eqb (numberIn a) 0) (okLine a) (noLine (numberIn a))
 -- The tally, "printed last as `end`, oks, noes".
 unfoldable pub endLine : (oks noes : ℕ) → Text
 endLine oks noes = (101 ∷ 110 ∷ 100 ∷ []) ++ ((9 ∷ decimal oks) ++ ((9 ∷ decimal noes) ++ (10 ∷ [])))
+
+-- No answer to a line is longer,
+abbrev pub longest : ℕ
+longest = 64
+
+-- and no line of the tally.
+abbrev pub longestEnd : ℕ
+longestEnd = 64

@@ -1,31 +1,27 @@
 // A record's call, and its answer as text.
 use records::Record;
+use records::Word;
 use store::Origin;
 use store::Outcome;
 use store::State;
 ghost use mathlib.Core.Path.{_≡_};
-ghost use mathlib.Core.List.{[], _∷_};
+ghost use mathlib.Core.List.{_∷_};
 ghost use Prim.Native.Nat.{_+_, _≤_};
-ghost use lib.ListN.{length, take};
+ghost use lib.ListN.{length};
 ghost use Rattle.text.specs.Numbers.{decimal};
 ghost use Rattle.text.specs.Output.{Puts};
 ghost use Rattle.rules.specs.Call.Answer.{outcome};
+ghost use Rattle.records.specs.Shown.{numbersOf};
 ghost use Rattle.store.specs.Shown.{shownOrigin, lentOf, kept, Promises};
 ghost use Rattle.replies.specs.Calls.{callOf};
-ghost use Rattle.replies.specs.Answers.{originText, valuesText, answerLine, endLine};
-ghost use Rattle.replies.specs.Lines.{answerOf, HoldsText};
+ghost use Rattle.replies.specs.Answers.{originText, valuesText, answerLine, endLine, longest, longestEnd};
+ghost use Rattle.replies.specs.Lines.{answerOf};
 
 // What stands behind `ok`.
 pub enum Shown {
     Nothing,
     Read(u32, Origin),
     Counts(u32, u32),
-}
-
-// A line of output, or nothing: the first so many bytes.
-pub struct Line {
-    pub bytes: [u8; 64],
-    pub count: usize,
 }
 
 // Puts a tab and a number.
@@ -67,65 +63,36 @@ fn put_shown(out: &mut [u8], at: usize, shown: Shown) -> usize
     }
 }
 
-// Puts an answer line at the start.
-fn put_answer(out: &mut [u8], refusal: u32, shown: Shown) -> usize
-    requires { ⌜ 64 ≤ length (now out) ⌝ }
-    ensures { λ r. ⌜ Puts (now (out .entry)) 0 (answerLine (answerOf refusal shown)) (now (out .exit)) r ⌝ }
+// The longest answer to a line.
+pub const LONGEST: usize = 64;
+
+// The longest line of the tally.
+pub const LONGEST_END: usize = 64;
+
+// Puts an answer line.
+pub fn put_answer(out: &mut [u8], at: usize, refusal: u32, shown: Shown) -> usize
+    requires { ⌜ at + longest ≤ length (now out) ⌝ }
+    ensures { λ r. ⌜ Puts (now (out .entry)) at (answerLine (answerOf refusal shown)) (now (out .exit)) r ⌝ }
 {
     if refusal != 0 {
-        let word = text::put(out, 0, b"no");
+        let word = text::put(out, at, b"no");
         let behind = put_number(out, word, refusal as u64);
         return text::put(out, behind, b"\n");
     }
-    let word = text::put(out, 0, b"ok");
+    let word = text::put(out, at, b"ok");
     let behind = put_shown(out, word, shown);
     text::put(out, behind, b"\n")
 }
 
-// The answer line of a refusal or 0.
-pub fn answer_line(refusal: u32, shown: Shown) -> Line
-    ensures { λ r. ⌜ HoldsText r (answerLine (answerOf refusal shown)) ⌝ }
+// Puts the line of the tally, which is printed last.
+pub fn put_end(out: &mut [u8], at: usize, oks: u64, noes: u64) -> usize
+    requires { ⌜ at + longestEnd ≤ length (now out) ⌝ }
+    ensures { λ r. ⌜ Puts (now (out .entry)) at (endLine oks noes) (now (out .exit)) r ⌝ }
 {
-    let mut bytes = [0u8; 64];
-    let count = put_answer(&mut bytes, refusal, shown);
-    Line { bytes, count }
-}
-
-// No line.
-pub fn no_text() -> Line
-    ensures { λ r. ⌜ HoldsText r [] ⌝ }
-{
-    let bytes = [0u8; 64];
-    Line { bytes, count: 0 }
-}
-
-// Puts a line.
-pub fn put_line(out: &mut [u8], at: usize, line: Line) -> usize
-    requires { ⌜ (line .count ≤ 64) × (at + 64 ≤ length (now out)) ⌝ }
-    ensures { λ r. ⌜ Puts (now (out .entry)) at (take (line .count) (line .bytes)) (now (out .exit)) r ⌝ }
-{
-    let bytes = line.bytes;
-    text::put(out, at, &bytes[..line.count])
-}
-
-// Puts the line of the tally at the start.
-fn put_end(out: &mut [u8], oks: u64, noes: u64) -> usize
-    requires { ⌜ 64 ≤ length (now out) ⌝ }
-    ensures { λ r. ⌜ Puts (now (out .entry)) 0 (endLine oks noes) (now (out .exit)) r ⌝ }
-{
-    let word = text::put(out, 0, b"end");
+    let word = text::put(out, at, b"end");
     let first = put_number(out, word, oks);
     let second = put_number(out, first, noes);
     text::put(out, second, b"\n")
-}
-
-// The line of the tally, which is printed last.
-pub fn end_line(oks: u64, noes: u64) -> Line
-    ensures { λ r. ⌜ HoldsText r (endLine oks noes) ⌝ }
-{
-    let mut bytes = [0u8; 64];
-    let count = put_end(&mut bytes, oks, noes);
-    Line { bytes, count }
 }
 
 // What a call gave: the state, the refusal or 0, and what an answer line shows of it.
@@ -158,13 +125,17 @@ pub fn call(
     history: &mut [u16],
     asked: Record,
 ) -> Reply
-    ensures { λ r. ⌜ Promises (callOf asked)
+    ensures { λ r. ⌜ Promises (callOf (asked .word) (numbersOf asked))
         (kept state (lentOf (now (archive .entry)) (now (pool .entry)) (now (groups .entry)) (now (table .entry)) (now (owners .entry)) (now (history .entry))))
         (answerOf (r .refusal) (r .shown))
         (kept (r .state) (lentOf (now (archive .exit)) (now (pool .exit)) (now (groups .exit)) (now (table .exit)) (now (owners .exit)) (now (history .exit)))) ⌝ }
 {
-    match asked {
-        Record::Reset(lines, frames, pages) => outcome_reply(store::reset(
+    let first = records::number(asked, 0);
+    let second = records::number(asked, 1);
+    let third = records::number(asked, 2);
+    let word = asked.word;
+    match word {
+        Word::Reset => outcome_reply(store::reset(
             state,
             archive,
             pool,
@@ -172,11 +143,11 @@ pub fn call(
             table,
             owners,
             history,
-            lines,
-            frames,
-            pages,
+            first,
+            second,
+            third,
         )),
-        Record::Read(width, address) => {
+        Word::Read => {
             let got = store::read(
                 state,
                 archive,
@@ -185,8 +156,8 @@ pub fn call(
                 table,
                 owners,
                 history,
-                width,
-                address,
+                first,
+                second,
             );
             let state = got.state;
             let origin = got.origin;
@@ -196,7 +167,7 @@ pub fn call(
                 shown: Shown::Read(got.value, origin),
             }
         }
-        Record::Write(width, address, value) => outcome_reply(store::write(
+        Word::Write => outcome_reply(store::write(
             state,
             archive,
             pool,
@@ -204,11 +175,11 @@ pub fn call(
             table,
             owners,
             history,
-            width,
-            address,
-            value,
+            first,
+            second,
+            third,
         )),
-        Record::Mark => outcome_reply(store::mark(
+        Word::Mark => outcome_reply(store::mark(
             state,
             archive,
             pool,
@@ -217,7 +188,7 @@ pub fn call(
             owners,
             history,
         )),
-        Record::Back(k) => outcome_reply(store::rollback(
+        Word::Back => outcome_reply(store::rollback(
             state,
             archive,
             pool,
@@ -225,9 +196,9 @@ pub fn call(
             table,
             owners,
             history,
-            k,
+            first,
         )),
-        Record::Advance(k) => outcome_reply(store::advance(
+        Word::Advance => outcome_reply(store::advance(
             state,
             archive,
             pool,
@@ -235,9 +206,9 @@ pub fn call(
             table,
             owners,
             history,
-            k,
+            first,
         )),
-        Record::Counts => {
+        Word::Counts => {
             let got = store::counts(state, archive, pool, groups, table, owners, history);
             Reply {
                 state,

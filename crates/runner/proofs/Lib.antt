@@ -1,1 +1,3 @@
-pub mod Room
+pub mod Going
+pub mod Reading
+pub mod Saying

@@ -6,8 +6,10 @@ use session::Runner;
 ghost use mathlib.Core.Path.{_≡_};
 ghost use Prim.Native.Nat.{_≤_};
 ghost use lib.ListN.{length};
-ghost use Rattle.store.specs.Shown.{lentLengths};
+ghost use Rattle.store.specs.Shown.{lentOf, lentLengths};
+ghost use Rattle.replies.specs.Answers.{longest};
 ghost use Rattle.session.specs.Transcript.{runnerLent};
+ghost use Rattle.runner.specs.Reading.{Answers, Reads, ReadsAll};
 
 // The runner after a read, whether to go on, and whether all went well.
 struct Read {
@@ -39,13 +41,14 @@ fn answer_chunk(
     chunk: &[u8],
     out: &mut [u8],
 ) -> Read
-    requires { ⌜ 64 ≤ length (now out) ⌝ }
+    requires { ⌜ longest ≤ length (now out) ⌝ }
+    ensures { λ r. ⌜ Answers runner (lentOf (now (archive .entry)) (now (pool .entry)) (now (groups .entry)) (now (table .entry)) (now (owners .entry)) (now (history .entry))) (now (chunk .entry)) (r .runner) (lentOf (now (archive .exit)) (now (pool .exit)) (now (groups .exit)) (now (table .exit)) (now (owners .exit)) (now (history .exit))) (r .more) (r .ok) ⌝ }
 {
     let count = chunk.len();
     let mut current = runner;
     let mut from = 0;
     while from < count {
-        let told = session::feed_all(
+        let told = session::feed(
             current,
             archive,
             pool,
@@ -85,7 +88,8 @@ fn read_some(
     history: &mut [u16],
     out: &mut [u8],
 ) -> Read
-    requires { ⌜ 64 ≤ length (now out) ⌝ }
+    requires { ⌜ longest ≤ length (now out) ⌝ }
+    ensures { λ r. ⌜ Reads runner (lentOf (now (archive .entry)) (now (pool .entry)) (now (groups .entry)) (now (table .entry)) (now (owners .entry)) (now (history .entry))) (r .runner) (lentOf (now (archive .exit)) (now (pool .exit)) (now (groups .exit)) (now (table .exit)) (now (owners .exit)) (now (history .exit))) (r .more) (r .ok) ⌝ }
 {
     let mut input = io::large_buffer();
     let got = libc::read(STDIN_FILENO, &mut input);
@@ -136,8 +140,9 @@ fn read_all(
     history: &mut [u16],
     out: &mut [u8],
 ) -> Read
-    requires { ⌜ (64 ≤ length (now out))
+    requires { ⌜ (longest ≤ length (now out))
         × (lentLengths (now archive) (now pool) (now groups) (now table) (now owners) (now history) ≡ runnerLent) ⌝ }
+    ensures { λ r. ⌜ ReadsAll (lentOf (now (archive .entry)) (now (pool .entry)) (now (groups .entry)) (now (table .entry)) (now (owners .entry)) (now (history .entry))) (r .runner) (lentOf (now (archive .exit)) (now (pool .exit)) (now (groups .exit)) (now (table .exit)) (now (owners .exit)) (now (history .exit))) (r .more) (r .ok) ⌝ }
 {
     let mut runner = session::start();
     let mut turns = u64::MAX;

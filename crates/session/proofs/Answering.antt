@@ -1,150 +1,198 @@
 -- A line answered. Assumes nothing.
 use mathlib.Core.Path.{_≡_, refl, sym, _∙_, ap, subst}
-use mathlib.Core.Bool.{Bool, true, false, false≢true}
-use mathlib.Core.List.{[], _∷_}
-use Prim.Native.Nat.{ℕ}
+use mathlib.Core.Bool.{Bool, true, false, cond, true≢false, false≢true}
+use mathlib.Core.List.{List, [], _∷_}
+use Prim.Native.Nat.{ℕ, suc, _<_, _≤_}
 use native.Mathlib.Omega.{arith}
-use lib.ListN.{take}
+use borrow.Author.Tests.{eq-eqb, ne-eqb}
+use lib.ListN.{length}
 use Rattle.text.specs.Parts.{Text}
 use Rattle.text.specs.Lines.{Holds}
 use Rattle.text.specs.declared.Reader.{Reader}
-use Rattle.records.specs.declared.Record.{Record}
+use Rattle.records.specs.declared.Word.{Word}
 use Rattle.records.specs.declared.Parsed.{Parsed}
-use Rattle.records.specs.declared.Parsed.the-variants.{Asks, Refused}
-use Rattle.records.specs.Records.{parsed}
-use Rattle.rules.specs.Settings.{Pieces}
+use Rattle.records.specs.Records.{Asked, parsed}
+use Rattle.records.specs.Records.Asked.{asks, turned-down}
+use Rattle.records.specs.Shown.{numbersOf, shownParsed}
 use Rattle.rules.specs.Call.{Answer, numberIn}
-use Rattle.store.specs.Shown.{StoreState, Lent, kept, lengthsOf, Promises}
-use Rattle.tally.specs.declared.Tally.{Tally}
-use Rattle.session.specs.declared.Runner.{Runner}
-use Rattle.replies.specs.declared.Line.{Line}
+use Rattle.rules.specs.Call.Answer.{outcome}
+use Rattle.store.specs.Shown.{StoreState, blankState, Lent, kept, lengthsOf, Promises}
+use Rattle.tally.specs.Counts.{tallyAfter}
 use Rattle.replies.specs.declared.Shown.{Shown}
 use Rattle.replies.specs.declared.Shown.the-variants.{Nothing}
-use Rattle.replies.specs.Answers.{answerLine}
-use Rattle.replies.specs.Lines.{answerOf, HoldsText}
+use Rattle.replies.specs.Answers.{answerLine, longest}
+use Rattle.replies.specs.Lines.{answerOf}
 use Rattle.replies.specs.Calls.{callOf}
+use Rattle.replies.proofs.Lines.{number-of, answer-few}
 use Rattle.session.specs.Transcript.{Store, Running, beginning, counted, storeAfter, lineAnswer, lineStore, lineText, lineAfter}
-use Rattle.session.specs.Running.{early, startedAfter, Stored, Asked, Replied, StandsFor, AnswersLine}
-use Rattle.replies.proofs.Lines.{number-of}
-use Rattle.session.proofs.Asking.{started-suc, asked-early, asked-call}
-use Rattle.session.proofs.Tallies.{SameTally, tally-next, counted-store}
+use Rattle.session.specs.Running.{Stored, tallyOn, StandsFor}
+use Rattle.session.specs.Between.{early, admitted, startedAfter, Desk, deskOf, keptOn, lengthsOn, Stands}
+use Rattle.session.proofs.Asking.{early-answer, early-store, answers-call, refused-same}
+use Rattle.session.proofs.Tallies.{tally-next, counted-store}
 
 -- The runner before its first line.
-pub stands-first : (state : StoreState) (reader : Reader) (lent : Lent) → Holds reader []
+pub stands-first : (state : StoreState) (reader : Reader) (lent : Lent) → state ≡ blankState → Holds reader []
     → StandsFor (record { state = state; started = false; tally = record { oks = 0; noes = 0 }; reader = reader }) lent beginning []
 unfolding beginning
-stands-first state reader lent h = record { reader = h; oks = refl; noes = refl; store = refl }
+stands-first state reader lent b h = record { reader = h; part = omega arith; tally = refl; store = (refl, b) }
 
--- An empty line gets no answer.
-empty-line : (r : Reader) (begun : Text) → Holds r begun → r .count ≡ 0 → begun ≡ []
-empty-line r [] q e = refl
-empty-line r (b ∷ bs) q e = absurd (omega (arith, q .counted))
+-- The answer to a line, whichever runner of the transcript it was. A line that is refused, and so adds no `ok`, leaves state and lent memory
+-- as they were.
+pub record AnswersLine (d : Desk) (line : Text) (e : Desk) (answer : Text) : Type 0 where
+  pub lengths : lengthsOn e ≡ lengthsOn d
+  pub few : length answer ≤ longest
+  pub text : (x : Running) → Stands d x → answer ≡ lineText (lengthsOn d) x line
+  pub stands : (x : Running) → Stands d x → Stands e (lineAfter (lengthsOn d) x line)
+  pub refused-kept : (x : Running) → Stands d x → lineAfter (lengthsOn d) x line .oks ≡ x .oks → keptOn e ≡ keptOn d
 
-pub answers-nothing : (r : Runner) (m : Lent) (out : Line) → r .reader .count ≡ 0 → HoldsText out [] → AnswersLine r m r m out
-unfolding lineText lineAfter
-answers-nothing r m out e says =
-    record {
-      lengths = refl;
-      few = says .few;
-      text = λ x begun q. says .bytes ∙ sym (ap (lineText (lengthsOf m) x) (empty-line (r .reader) begun (q .reader) e));
-      stands =
-          λ x begun q.
-          let none : begun ≡ [] = empty-line (r .reader) begun (q .reader) e in
-          subst (λ (y : Running). StandsFor r m y []) (sym (ap (lineAfter (lengthsOf m) x) none)) (subst (StandsFor r m x) none q);
-    }
+-- What a line says in code.
+shown-zero : (r : Parsed) → r .refusal ≡ 0 → shownParsed r ≡ asks (r .entry .word) (numbersOf (r .entry))
+unfolding shownParsed
+shown-zero r e = ap (λ (t : Bool). cond t (asks (r .entry .word) (numbersOf (r .entry))) (turned-down (r .refusal))) (eq-eqb (r .refusal) 0 e)
 
-stored-as : (b c : Bool) (s t : StoreState) (m : Lent) (o p : Store) → c ≡ b → t ≡ s → p ≡ o → Stored b (kept s m) o → Stored c (kept t m) p
-stored-as b c s t m o p e d f q =
-    subst (λ (x : Bool). Stored x (kept t m) p) (sym e) (subst (λ (x : StoreState). Stored b (kept x m) p) (sym d) (subst (Stored b (kept s m)) (sym f) q))
+shown-other : (r : Parsed) → (r .refusal ≡ 0 → ⊥) → shownParsed r ≡ turned-down (r .refusal)
+unfolding shownParsed
+shown-other r d = ap (λ (t : Bool). cond t (asks (r .entry .word) (numbersOf (r .entry))) (turned-down (r .refusal))) (ne-eqb (r .refusal) 0 d)
+
+module _ (started : Bool) (line : Text) (r : Parsed) (p : shownParsed r ≡ parsed line) where
+  pub ask-down : (r .refusal ≡ 0 → ⊥) → shownParsed r ≡ admitted started (parsed line)
+  unfolding admitted
+  ask-down d = shown-other r d ∙ ap (admitted started) (sym (shown-other r d) ∙ p)
+
+  admitted-record : r .refusal ≡ 0 → admitted started (parsed line) ≡ cond (early started (r .entry .word)) (turned-down 3) (asks (r .entry .word) (numbersOf (r .entry)))
+  unfolding admitted
+  admitted-record e = ap (admitted started) (sym p ∙ shown-zero r e)
+
+  pub ask-early : (b : Bool) → r .refusal ≡ 0 → b ≡ early started (r .entry .word) → b ≡ true → shownParsed (record { refusal = 3; entry = r .entry }) ≡ admitted started (parsed line)
+  unfolding shownParsed
+  ask-early b e q t =
+      sym (admitted-record e ∙ ap (λ (x : Bool). cond x (turned-down 3) (asks (r .entry .word) (numbersOf (r .entry)))) (sym q ∙ t))
+
+  pub ask-record : (b : Bool) → r .refusal ≡ 0 → b ≡ early started (r .entry .word) → b ≡ false → shownParsed r ≡ admitted started (parsed line)
+  ask-record b e q t =
+      shown-zero r e
+      ∙ sym (admitted-record e ∙ ap (λ (x : Bool). cond x (turned-down 3) (asks (r .entry .word) (numbersOf (r .entry)))) (sym q ∙ t))
 
 -- What an answer has to be, for any store of the session: the transcript's, with the store that it leaves.
-pub record Fits (r : Runner) (before : Lent) (p : Parsed) (a : Answer) (started : Bool) (state : StoreState) (after : Lent) : Type 0 where
-  pub answer : (o : Store) → Stored (r .started) (kept (r .state) before) o → a ≡ lineAnswer (lengthsOf before) o p
-  pub store : (o : Store) → Stored (r .started) (kept (r .state) before) o → Stored started (kept state after) (lineStore (lengthsOf before) o p)
+pub record Fits (d : Desk) (p : Asked) (a : Answer) (started : Bool) (state : StoreState) (after : Lent) : Type 0 where
+  pub answer : (o : Store) → Stored (d .started) (keptOn d) o → a ≡ lineAnswer (lengthsOn d) o p
+  pub store : (o : Store) → Stored (d .started) (keptOn d) o → Stored started (kept state after) (lineStore (lengthsOn d) o p)
 
-module _ (r : Runner) (before : Lent) (p : Parsed) (n : ℕ) (shown : Shown) (started : Bool) (state : StoreState) (after : Lent) (s : Runner) (out : Line)
-    (known : (line : Text) → Holds (r .reader) line → p ≡ parsed line) (some-byte : r .reader .count ≡ 0 → ⊥)
-    (rep : Replied r started state n shown (record { runner = s; line = out })) (fit : Fits r before p (answerOf n shown) started state after) where
-  abbrev lengths : Pieces
-  lengths = lengthsOf before
+counted-refused : (a : Answer) (x : Running) (o : Store) → counted a x o .oks ≡ x .oks → numberIn a ≡ 0 → ⊥
+unfolding counted
+counted-refused a x o e z = absurd (omega (arith, same))
+  where
+    same : suc (x .oks) ≡ x .oks
+    same = sym (ap (λ (b : Bool). cond {A = Running} b (record { store = o; oks = suc (x .oks); noes = x .noes }) (record { store = o; oks = x .oks; noes = suc (x .noes) }) .oks) (eq-eqb (numberIn a) 0 z)) ∙ e
 
-  module _ (x : Running) (b : ℕ) (bs : Text) (q : StandsFor r before x (b ∷ bs)) where
-    said : answerOf n shown ≡ lineAnswer lengths (x .store) (parsed (b ∷ bs))
-    said = fit .answer (x .store) (q .store) ∙ ap (lineAnswer lengths (x .store)) (known (b ∷ bs) (q .reader))
+module _ (d : Desk) (n : ℕ) (shown : Shown) (started : Bool) (state : StoreState) (after : Lent) where
+  abbrev left : Desk
+  left = deskOf state started (tallyAfter (d .tally) n) after
 
-    text-some : take (out .count) (out .bytes) ≡ lineText lengths x (b ∷ bs)
-    unfolding lineText
-    text-some = rep .line .bytes ∙ ap answerLine said
+  module _ (b : ℕ) (bs : Text) (fit : Fits d (parsed (b ∷ bs)) (answerOf n shown) started state after) where
+    module _ (x : Running) (q : Stands d x) where
+      said : answerOf n shown ≡ lineAnswer (lengthsOn d) (x .store) (parsed (b ∷ bs))
+      said = fit .answer (x .store) (q .store)
 
-    beside : SameTally (s .tally) (lineAfter lengths x (b ∷ bs))
-    unfolding lineAfter
-    beside =
-        subst (λ (t : Tally). SameTally t (counted (lineAnswer lengths (x .store) (parsed (b ∷ bs))) x (lineStore lengths (x .store) (parsed (b ∷ bs))))) (sym (rep .tally))
-        (tally-next (r .tally) x (lineAnswer lengths (x .store) (parsed (b ∷ bs))) (lineStore lengths (x .store) (parsed (b ∷ bs))) (record { oks = q .oks; noes = q .noes }) n
-        (ap numberIn (sym said) ∙ number-of n shown))
+      text-some : answerLine (answerOf n shown) ≡ lineText (lengthsOn d) x (b ∷ bs)
+      unfolding lineText
+      text-some = ap answerLine said
 
-    stored : Stored (s .started) (kept (s .state) after) (lineAfter lengths x (b ∷ bs) .store)
-    unfolding lineAfter
-    stored =
-        stored-as started (s .started) state (s .state) after (lineStore lengths (x .store) p) _ (rep .started-is) (rep .state-is)
-        (counted-store (lineAnswer lengths (x .store) (parsed (b ∷ bs))) x (lineStore lengths (x .store) (parsed (b ∷ bs)))
-        ∙ ap (lineStore lengths (x .store)) (sym (known (b ∷ bs) (q .reader))))
-        (fit .store (x .store) (q .store))
+      number-is : numberIn (lineAnswer (lengthsOn d) (x .store) (parsed (b ∷ bs))) ≡ n
+      number-is = ap numberIn (sym said) ∙ number-of n shown
 
-  pub line-answered : lengthsOf after ≡ lengthsOf before → AnswersLine r before s after out
-  line-answered e = record { lengths = e; few = rep .line .few; text = text; stands = stands }
-    where
-      text : (x : Running) (begun : Text) → StandsFor r before x begun → take (out .count) (out .bytes) ≡ lineText lengths x begun
-      text x [] q = absurd (some-byte (omega (arith, q .reader .counted)))
-      text x (b ∷ bs) q = text-some x b bs q
+      beside : tallyAfter (d .tally) n ≡ tallyOn (lineAfter (lengthsOn d) x (b ∷ bs))
+      unfolding lineAfter
+      beside =
+          tally-next (d .tally) x (lineAnswer (lengthsOn d) (x .store) (parsed (b ∷ bs))) (lineStore (lengthsOn d) (x .store) (parsed (b ∷ bs))) (q .tally) n number-is
 
-      stands : (x : Running) (begun : Text) → StandsFor r before x begun → StandsFor s after (lineAfter lengths x begun) []
-      stands x [] q = absurd (some-byte (omega (arith, q .reader .counted)))
-      stands x (b ∷ bs) q = record { reader = rep .reader; oks = beside x b bs q .oks; noes = beside x b bs q .noes; store = stored x b bs q }
+      stored : Stored started (kept state after) (lineAfter (lengthsOn d) x (b ∷ bs) .store)
+      unfolding lineAfter
+      stored =
+          subst (Stored started (kept state after))
+          (sym (counted-store (lineAnswer (lengthsOn d) (x .store) (parsed (b ∷ bs))) x (lineStore (lengthsOn d) (x .store) (parsed (b ∷ bs)))))
+          (fit .store (x .store) (q .store))
+
+      no-ok : lineAfter (lengthsOn d) x (b ∷ bs) .oks ≡ x .oks → n ≡ 0 → ⊥
+      unfolding lineAfter
+      no-ok e z = counted-refused (lineAnswer (lengthsOn d) (x .store) (parsed (b ∷ bs))) x (lineStore (lengthsOn d) (x .store) (parsed (b ∷ bs))) e (number-is ∙ z)
+
+    some-answered : lengthsOf after ≡ lengthsOn d → ((n ≡ 0 → ⊥) → kept state after ≡ keptOn d) → AnswersLine d (b ∷ bs) left (answerLine (answerOf n shown))
+    some-answered e k =
+        record {
+          lengths = e;
+          few = answer-few (answerOf n shown);
+          text = text-some;
+          stands = λ x q. record { tally = beside x q; store = stored x q };
+          refused-kept = λ x q o. k (no-ok x q o);
+        }
+
+  line-answered : (line : Text) → 0 < length line → Fits d (parsed line) (answerOf n shown) started state after
+      → lengthsOf after ≡ lengthsOn d → ((n ≡ 0 → ⊥) → kept state after ≡ keptOn d) → AnswersLine d line left (answerLine (answerOf n shown))
+  line-answered [] h fit e k = absurd (omega (arith, h))
+  line-answered (b ∷ bs) h fit e k = some-answered b bs fit e k
 
 -- A line that is turned down,
-pub fits-refused : (r : Runner) (m : Lent) (p : Parsed) (n : ℕ) → p ≡ Refused n → Fits r m p (answerOf n Nothing) (r .started) (r .state) m
-unfolding lineAnswer lineStore answerOf
-fits-refused r m p n e =
-    record {
-      answer = λ o q. sym (ap (lineAnswer (lengthsOf m) o) e);
-      store = λ o q. subst (Stored (r .started) (kept (r .state) m)) (sym (ap (lineStore (lengthsOf m) o) e)) q;
-    }
+refusalIn : Asked → ℕ
+refusalIn (turned-down n) = n
+refusalIn (asks w ns) = 0
 
--- one that is a record,
-fits-record : (r : Runner) (before : Lent) (asked : Record) (n : ℕ) (shown : Shown) (started : Bool) (state : StoreState) (after : Lent)
-    → started ≡ startedAfter (r .started) n → Asked (r .started) asked (kept (r .state) before) (answerOf n shown) (kept state after)
-    → Fits r before (Asks asked) (answerOf n shown) started state after
-unfolding lineAnswer lineStore
-fits-record r before asked n shown started state after d h =
-    record {
-      answer = h .answer;
-      store =
-          λ o q.
-          subst (λ (b : Bool). Stored b (kept state after) (storeAfter (lengthsOf before) o asked)) (ap (startedAfter (r .started)) (number-of n shown) ∙ sym d) (h .after o q);
-    }
+isAsked : Asked → Bool
+isAsked (turned-down n) = false
+isAsked (asks w ns) = true
 
-pub fits-asked : (r : Runner) (before : Lent) (p : Parsed) (asked : Record) (n : ℕ) (shown : Shown) (started : Bool) (state : StoreState) (after : Lent)
-    → p ≡ Asks asked → started ≡ startedAfter (r .started) n → early (r .started) p ≡ false
-    → Promises (callOf asked) (kept (r .state) before) (answerOf n shown) (kept state after) → Fits r before p (answerOf n shown) started state after
-fits-asked r before p asked n shown started state after e d b h =
-    subst (λ (x : Parsed). Fits r before x (answerOf n shown) started state after) (sym e)
-    (fits-record r before asked n shown started state after d
-    (asked-call (r .started) asked (kept (r .state) before) (answerOf n shown) (kept state after) (ap (early (r .started)) (sym e) ∙ b) h))
+fits-down : (d : Desk) (p : Asked) (n : ℕ) → turned-down n ≡ admitted (d .started) p → Fits d p (answerOf n Nothing) (d .started) (d .state) (d .lent)
+unfolding lineAnswer lineStore answerOf admitted isAsked refusalIn
+fits-down d (turned-down k) n e =
+    record { answer = λ o q. ap (λ (a : Asked). outcome (refusalIn a)) e; store = λ o q. q }
+fits-down d (asks w ns) n e = go (early (d .started) w) refl e
+  where
+    go : (b : Bool) → early (d .started) w ≡ b → turned-down n ≡ cond b (turned-down 3) (asks w ns) → Fits d (asks w ns) (outcome n) (d .started) (d .state) (d .lent)
+    go true t f =
+        record {
+          answer = λ o q. ap (λ (a : Asked). outcome (refusalIn a)) f ∙ early-answer (d .started) w ns (keptOn d) t o q;
+          store = λ o q. subst (Stored (d .started) (keptOn d)) (sym (early-store (d .started) w ns (keptOn d) t o q)) q;
+        }
+    go false t f = absurd (false≢true (ap isAsked f))
 
--- and a record that comes too early.
-early-started : (b : Bool) (p : Parsed) → early b p ≡ true → b ≡ false
-unfolding early
-early-started true p e = absurd (false≢true e)
-early-started false p e = refl
+pub answers-down : (d : Desk) (line : Text) (r : Parsed) → 0 < length line → shownParsed r ≡ admitted (d .started) (parsed line) → (r .refusal ≡ 0 → ⊥)
+    → AnswersLine d line (deskOf (d .state) (d .started) (tallyAfter (d .tally) (r .refusal)) (d .lent)) (answerLine (answerOf (r .refusal) Nothing))
+answers-down d line r h e n =
+    line-answered d (r .refusal) Nothing (d .started) (d .state) (d .lent) line h (fits-down d (parsed line) (r .refusal) (sym (shown-other r n) ∙ e)) refl (λ k. refl)
 
-early-fits : (r : Runner) (m : Lent) (p : Parsed) → r .started ≡ false → early false p ≡ true → Fits r m p (answerOf 3 Nothing) (r .started) (r .state) m
-unfolding early answerOf
-early-fits r m (Refused n) b e = absurd (false≢true e)
-early-fits r m (Asks asked) b e =
-    fits-record r m asked 3 Nothing (r .started) (r .state) m (b ∙ sym (started-suc (r .started) 2 b)) (asked-early (r .started) asked (kept (r .state) m) b e)
+-- and one whose call is made.
+module _ (d : Desk) (n : ℕ) (shown : Shown) (started : Bool) (state : StoreState) (after : Lent) (w : Word) (ns : List ℕ)
+    (s : started ≡ startedAfter (d .started) n) (h : Promises (callOf w ns) (keptOn d) (answerOf n shown) (kept state after)) where
+  fits-record : early (d .started) w ≡ false → Fits d (asks w ns) (answerOf n shown) started state after
+  unfolding lineAnswer lineStore
+  fits-record e =
+      let k = answers-call (d .started) w ns (keptOn d) (answerOf n shown) (kept state after) e h in
+      record {
+        answer = k .answer;
+        store =
+            λ o q.
+            subst (λ (b : Bool). Stored b (kept state after) (storeAfter (lengthsOn d) o (callOf w ns))) (ap (startedAfter (d .started)) (number-of n shown) ∙ sym s) (k .after o q);
+      }
 
-pub fits-early : (r : Runner) (m : Lent) (p : Parsed) → early (r .started) p ≡ true → Fits r m p (answerOf 3 Nothing) (r .started) (r .state) m
-fits-early r m p e =
-    let b : r .started ≡ false = early-started (r .started) p e in
-    early-fits r m p b (ap (λ (x : Bool). early x p) (sym b) ∙ e)
+  fits-up : (p : Asked) → asks w ns ≡ admitted (d .started) p → Fits d p (answerOf n shown) started state after
+  unfolding admitted isAsked
+  fits-up (turned-down k) e = absurd (true≢false (ap isAsked e))
+  fits-up (asks v ms) e = go (early (d .started) v) refl e
+    where
+      wordIn : Asked → Word
+      wordIn (turned-down k) = v
+      wordIn (asks u us) = u
+
+      go : (b : Bool) → early (d .started) v ≡ b → asks w ns ≡ cond b (turned-down 3) (asks v ms) → Fits d (asks v ms) (answerOf n shown) started state after
+      go true t f = absurd (true≢false (ap isAsked f))
+      go false t f =
+          subst (λ (p : Asked). Fits d p (answerOf n shown) started state after) f
+          (fits-record (ap (λ (p : Asked). early (d .started) (wordIn p)) f ∙ t))
+
+  pub answers-up : (line : Text) (r : Parsed) → 0 < length line → shownParsed r ≡ admitted (d .started) (parsed line) → r .refusal ≡ 0
+      → w ≡ r .entry .word → ns ≡ numbersOf (r .entry)
+      → AnswersLine d line (deskOf state started (tallyAfter (d .tally) n) after) (answerLine (answerOf n shown))
+  answers-up line r i e z f g =
+      line-answered d n shown started state after line i
+      (fits-up (parsed line) (ap (λ (u : Word). asks u ns) f ∙ (ap (asks (r .entry .word)) g ∙ (sym (shown-zero r z) ∙ e))))
+      (h .lengths) (λ k. refused-same w ns (keptOn d) (answerOf n shown) (kept state after) h (λ j. k (sym (number-of n shown) ∙ j)))

@@ -1,38 +1,40 @@
 -- A record's call and its answer. Assumes nothing.
 use mathlib.Core.Path.{_≡_, refl, sym, _∙_, ap, subst}
+use mathlib.Core.Logic.{_⊎_, inl, inr, ⊎-elim}
 use mathlib.Core.Bool.{Bool, true, false, cond, _||_, true≢false, false≢true}
 use mathlib.Core.Option.{Option, none, some}
+use mathlib.Core.List.{List}
 use Prim.Native.Nat.{ℕ, zero, suc}
 use native.Mathlib.Omega.{arith}
 use lib.Dec.{eqb}
 use borrow.Author.Tests.{eq-eqb, ne-eqb}
-use Rattle.rules.specs.Settings.{Settings, Pieces}
-use Rattle.rules.specs.Sizing.{settingsOf}
-use Rattle.rules.specs.Call.{Answer, numberIn}
-use Rattle.rules.specs.Call.Call.{RESET}
-use Rattle.rules.specs.Call.Answer.{outcome}
-use Rattle.rules.specs.Refusal.{askedRefusal}
+use Rattle.rules.specs.Settings.{Settings}
+use Rattle.rules.specs.Call.{Act, Call, Answer, numberIn, refused}
+use Rattle.rules.specs.Call.Call.{RESET, ON}
+use Rattle.rules.specs.Call.Answer.{outcome, reading, lending, counting, verdict}
+use Rattle.rules.specs.Refusal.{factsBy, refusal, askedRefusal}
 use Rattle.rules.specs.Plain.{Model, freshModel}
-use Rattle.records.specs.declared.Record.{Record}
-use Rattle.records.specs.declared.Record.the-variants.{Reset, Read, Write, Mark, Back, Advance, Counts}
-use Rattle.records.specs.declared.Parsed.{Parsed}
-use Rattle.records.specs.declared.Parsed.the-variants.{Asks}
-use Rattle.store.specs.Shown.{Kept, lengthsKept, Promises, AnswersAs}
+use Rattle.rules.specs.Promise.{formOf}
+use Rattle.records.specs.declared.Word.{Word}
+use Rattle.records.specs.declared.Word.the-variants.{Reset, Read, Write, Mark, Back, Advance, Counts}
+use Rattle.store.specs.Shown.{Kept, blankState, lengthsKept, Promises, AnswersAs}
 use Rattle.store.proofs.Demand3.{store-answered, store-starts, store-answers-next, store-goes-on}
 use Rattle.replies.specs.Calls.{callOf}
-use Rattle.session.specs.Transcript.{Store, resetTo, unstartedRefusal, unstartedStore, answerTo, storeAfter}
-use Rattle.session.specs.Running.{isOther, early, startedAfter, Stored, Asked}
+use Rattle.session.specs.Transcript.{Store, resetIn, unstartedRefusal, unstartedStore, answerTo, storeAfter}
+use Rattle.session.specs.Running.{Stored}
+use Rattle.session.specs.Between.{isOther, early, startedAfter}
 
--- A record in the form in which a match has it.
-pub other-of : (asked form : Record) (b : Bool) → asked ≡ form → b ≡ isOther (resetTo form) → b ≡ isOther (resetTo asked)
-other-of asked form b f g = g ∙ sym (ap (λ (r : Record). isOther (resetTo r)) f)
+-- A word in the form in which a match has it.
+pub other-of : (asked form : Word) (b : Bool) → asked ≡ form → b ≡ isOther form → b ≡ isOther asked
+other-of asked form b f g = g ∙ sym (ap isOther f)
 
-pub early-of : (started : Bool) (parsed form : Parsed) (b : Bool) → started ≡ false → parsed ≡ form → b ≡ early false form → b ≡ early started parsed
-early-of started parsed form b e f g = g ∙ sym (λ i. early (e i) (f i))
-
-pub early-not : (started : Bool) (parsed : Parsed) → started ≡ true → false ≡ early started parsed
+pub early-of : (started : Bool) (w : Word) (b : Bool) → started ≡ false → b ≡ isOther w → b ≡ early started w
 unfolding early
-early-not started parsed e = sym (ap (λ (b : Bool). early b parsed) e)
+early-of started w b e g = g ∙ sym (ap (λ (x : Bool). early x w) e)
+
+pub early-not : (started : Bool) (w : Word) → started ≡ true → false ≡ early started w
+unfolding early
+early-not started w e = sym (ap (λ (b : Bool). early b w) e)
 
 -- Whether a reset was accepted.
 started-true : (b : Bool) (n : ℕ) → b ≡ true → startedAfter b n ≡ true
@@ -61,92 +63,142 @@ started-now b n e = sym (started-zero b n e)
 pub started-not : (b : Bool) (n : ℕ) → b ≡ false → (n ≡ 0 → ⊥) → false ≡ startedAfter b n
 started-not b n e d = sym (started-false b n e d)
 
--- The answer and the store before the first accepted reset, by what a record asks for; and afterwards.
-first-answer : (lengths : Pieces) (r : Record) (o : Option Settings) → resetTo r ≡ o → answerTo lengths none r ≡ outcome (unstartedRefusal lengths o)
-unfolding answerTo
-first-answer lengths r o e = ap (λ (x : Option Settings). outcome (unstartedRefusal lengths x)) e
+-- What a word asks for: a reset, or an act whose answer has a number.
+pub record Resets (w : Word) (c : Call) : Type 0 where
+  pub other : isOther w ≡ false
+  pub settings : Settings
+  pub call : c ≡ RESET settings
 
-first-store : (lengths : Pieces) (r : Record) (o : Option Settings) → resetTo r ≡ o → storeAfter lengths none r ≡ unstartedStore lengths o
-unfolding storeAfter
-first-store lengths r o e = ap (unstartedStore lengths) e
+pub record Acts (w : Word) (c : Call) : Type 0 where
+  pub other : isOther w ≡ true
+  pub act : Act
+  pub call : c ≡ ON act
+  pub numbered : (n : ℕ) → numberIn (refused n (ON act)) ≡ n
 
-module _ (s t : Kept) (r : Record) (a : Answer) (m : Model) where
-  later-answer : AnswersAs s m → Promises (callOf r) s a t → a ≡ answerTo (lengthsKept s) (some m) r
+pub word-call : (w : Word) (ns : List ℕ) → Resets w (callOf w ns) ⊎ Acts w (callOf w ns)
+unfolding isOther callOf refused numberIn
+word-call Reset ns = inl (record { other = refl; settings = _; call = refl })
+word-call Read ns = inr (record { other = refl; act = _; call = refl; numbered = λ n. refl })
+word-call Write ns = inr (record { other = refl; act = _; call = refl; numbered = λ n. refl })
+word-call Mark ns = inr (record { other = refl; act = _; call = refl; numbered = λ n. refl })
+word-call Back ns = inr (record { other = refl; act = _; call = refl; numbered = λ n. refl })
+word-call Advance ns = inr (record { other = refl; act = _; call = refl; numbered = λ n. refl })
+word-call Counts ns = inr (record { other = refl; act = _; call = refl; numbered = λ n. refl })
+
+module _ (w : Word) (ns : List ℕ) where
+  other-none : isOther w ≡ true → resetIn (callOf w ns) ≡ none
+  unfolding resetIn
+  other-none e =
+      ⊎-elim (λ r. absurd (false≢true (sym (r .other) ∙ e))) (λ a. ap resetIn (a .call)) (word-call w ns)
+
+  reset-call : isOther w ≡ false → Resets w (callOf w ns)
+  reset-call e = ⊎-elim (λ r. r) (λ a. absurd (true≢false (sym (a .other) ∙ e))) (word-call w ns)
+
+  refused-number : (n : ℕ) → numberIn (refused n (callOf w ns)) ≡ n
+  unfolding refused numberIn
+  refused-number n =
+      ⊎-elim (λ r. ap (λ (c : Call). numberIn (refused n c)) (r .call)) (λ a. ap (λ (c : Call). numberIn (refused n c)) (a .call) ∙ a .numbered n) (word-call w ns)
+
+module _ (s t : Kept) (c : Call) (a : Answer) (m : Model) where
+  later-answer : AnswersAs s m → Promises c s a t → a ≡ answerTo (lengthsKept s) (some m) c
   unfolding answerTo
-  later-answer q h = store-answers-next s t (callOf r) a m q h
+  later-answer q h = store-answers-next s t c a m q h
 
-  later-stored : {started : Bool} → (started ≡ true) × AnswersAs s m → Promises (callOf r) s a t → Stored (startedAfter started (numberIn a)) t (storeAfter (lengthsKept s) (some m) r)
+  later-stored : {started : Bool} → (started ≡ true) × AnswersAs s m → Promises c s a t → Stored (startedAfter started (numberIn a)) t (storeAfter (lengthsKept s) (some m) c)
   unfolding storeAfter
-  later-stored q h = (started-true _ (numberIn a) (q .0), store-goes-on s t (callOf r) a m (q .1) h)
+  later-stored q h = (started-true _ (numberIn a) (q .0), store-goes-on s t c a m (q .1) h)
+
+-- The answer to a record's call, whatever the session's store was, and what is left.
+pub record Answers (started : Bool) (c : Call) (s : Kept) (a : Answer) (t : Kept) : Type 0 where
+  pub answer : (o : Store) → Stored started s o → a ≡ answerTo (lengthsKept s) o c
+  pub after : (o : Store) → Stored started s o → Stored (startedAfter started (numberIn a)) t (storeAfter (lengthsKept s) o c)
 
 -- 3: a record that is no reset, before the first accepted one
-other-none : (o : Option Settings) → isOther o ≡ true → o ≡ none
-unfolding isOther
-other-none none e = refl
-other-none (some asked) e = absurd (false≢true e)
+early-started : (b : Bool) (w : Word) → early b w ≡ true → b ≡ false
+unfolding early
+early-started true w e = absurd (false≢true e)
+early-started false w e = refl
 
-pub asked-early : (started : Bool) (r : Record) (s : Kept) → started ≡ false → isOther (resetTo r) ≡ true → Asked started r s (outcome 3) s
-unfolding unstartedRefusal unstartedStore numberIn
-asked-early started r s b e = record { lengths = refl; answer = answer; after = after }
-  where
-    answer : (o : Store) → Stored started s o → outcome 3 ≡ answerTo (lengthsKept s) o r
-    answer none q = sym (first-answer (lengthsKept s) r none (other-none (resetTo r) e))
-    answer (some m) q = absurd (true≢false (sym (q .0) ∙ b))
+early-other : (b : Bool) (w : Word) → early b w ≡ true → isOther w ≡ true
+unfolding early
+early-other true w e = absurd (false≢true e)
+early-other false w e = e
 
-    after : (o : Store) → Stored started s o → Stored (startedAfter started 3) s (storeAfter (lengthsKept s) o r)
-    after none q = subst (Stored (startedAfter started 3) s) (sym (first-store (lengthsKept s) r none (other-none (resetTo r) e))) (started-suc started 2 q)
-    after (some m) q = absurd (true≢false (sym (q .0) ∙ b))
+module _ (started : Bool) (w : Word) (ns : List ℕ) (s : Kept) (e : early started w ≡ true) where
+  pub early-answer : (o : Store) → Stored started s o → outcome 3 ≡ answerTo (lengthsKept s) o (callOf w ns)
+  unfolding answerTo unstartedRefusal
+  early-answer none q = sym (ap (λ (x : Option Settings). outcome (unstartedRefusal (lengthsKept s) x)) (other-none w ns (early-other started w e)))
+  early-answer (some m) q = absurd (true≢false (sym (q .0) ∙ early-started started w e))
+
+  pub early-store : (o : Store) → Stored started s o → storeAfter (lengthsKept s) o (callOf w ns) ≡ o
+  unfolding storeAfter unstartedStore
+  early-store none q = ap (unstartedStore (lengthsKept s)) (other-none w ns (early-other started w e))
+  early-store (some m) q = absurd (true≢false (sym (q .0) ∙ early-started started w e))
 
 -- The first reset.
-module _ (s t : Kept) (asked : Settings) (a : Answer) (h : Promises (RESET asked) s a t) where
+module _ (s t : Kept) (asked : Settings) (a : Answer) (blank : s .state ≡ blankState) (h : Promises (RESET asked) s a t) where
   first-number : a ≡ outcome (askedRefusal (lengthsKept s) asked)
   first-number = store-answered s t asked a h
+
+  stays : (n : ℕ) → askedRefusal (lengthsKept s) asked ≡ suc n → t .state ≡ blankState
+  unfolding refusal factsBy
+  stays n e = ap (λ (x : Kept). x .state) (h .refused-kept (λ d. absurd (omega (arith, e, d)))) ∙ blank
 
   first-stored : (n : ℕ) → askedRefusal (lengthsKept s) asked ≡ n → Stored (startedAfter false n) t (cond (eqb n 0) (some (freshModel asked)) none)
   first-stored zero e =
       (started-zero false 0 refl, store-starts s t asked (askedRefusal (lengthsKept s) asked) e (subst (λ (x : Answer). Promises (RESET asked) s x t) first-number h))
   first-stored (suc n) e =
-      subst (λ (b : Bool). Stored (startedAfter false (suc n)) t (cond b (some (freshModel asked)) none)) (sym (ne-eqb (suc n) 0 (λ d. omega arith))) (started-suc false n refl)
+      subst (λ (b : Bool). Stored (startedAfter false (suc n)) t (cond b (some (freshModel asked)) none)) (sym (ne-eqb (suc n) 0 (λ d. omega arith))) (started-suc false n refl, stays n e)
 
 -- the call that is made before an accepted reset is a reset
-record First (r : Record) (s : Kept) (a : Answer) (t : Kept) : Type 0 where
-  answer : a ≡ answerTo (lengthsKept s) none r
-  stored : Stored (startedAfter false (numberIn a)) t (storeAfter (lengthsKept s) none r)
+record First (c : Call) (s : Kept) (a : Answer) (t : Kept) : Type 0 where
+  answer : a ≡ answerTo (lengthsKept s) none c
+  stored : Stored (startedAfter false (numberIn a)) t (storeAfter (lengthsKept s) none c)
 
-first-reset : (r : Record) (s t : Kept) (asked : Settings) (a : Answer) → resetTo r ≡ some asked → Promises (RESET asked) s a t → First r s a t
-unfolding unstartedRefusal unstartedStore numberIn
-first-reset r s t asked a e h =
+first-reset : (s t : Kept) (asked : Settings) (a : Answer) → s .state ≡ blankState → Promises (RESET asked) s a t → First (RESET asked) s a t
+unfolding answerTo storeAfter resetIn unstartedRefusal unstartedStore numberIn
+first-reset s t asked a blank h =
     record {
-      answer = first-number s t asked a h ∙ sym (first-answer (lengthsKept s) r (some asked) e);
+      answer = first-number s t asked a blank h;
       stored =
-          subst (Stored (startedAfter false (numberIn a)) t) (sym (first-store (lengthsKept s) r (some asked) e))
-          (subst (λ (n : ℕ). Stored (startedAfter false n) t (cond (eqb (askedRefusal (lengthsKept s) asked) 0) (some (freshModel asked)) none))
-          (sym (ap numberIn (first-number s t asked a h))) (first-stored s t asked a h (askedRefusal (lengthsKept s) asked) refl));
+          subst (λ (n : ℕ). Stored (startedAfter false n) t (cond (eqb (askedRefusal (lengthsKept s) asked) 0) (some (freshModel asked)) none))
+          (sym (ap numberIn (first-number s t asked a blank h))) (first-stored s t asked a blank h (askedRefusal (lengthsKept s) asked) refl);
     }
 
-first : (r : Record) (s : Kept) (a : Answer) (t : Kept) → isOther (resetTo r) ≡ false → Promises (callOf r) s a t → First r s a t
-unfolding isOther resetTo callOf
-first (Reset l f p) s a t e h = first-reset (Reset l f p) s t (settingsOf l f p) a refl h
-first (Read w x) s a t e h = absurd (true≢false e)
-first (Write w x v) s a t e h = absurd (true≢false e)
-first Mark s a t e h = absurd (true≢false e)
-first (Back k) s a t e h = absurd (true≢false e)
-first (Advance k) s a t e h = absurd (true≢false e)
-first Counts s a t e h = absurd (true≢false e)
+first : (w : Word) (ns : List ℕ) (s : Kept) (a : Answer) (t : Kept) → s .state ≡ blankState → isOther w ≡ false → Promises (callOf w ns) s a t → First (callOf w ns) s a t
+first w ns s a t b e h =
+    let r = reset-call w ns e in
+    subst (λ (c : Call). First c s a t) (sym (r .call)) (first-reset s t (r .settings) a b (subst (λ (c : Call). Promises c s a t) (r .call) h))
 
 -- A call that is made answers as the session's store does.
-pub asked-call : (started : Bool) (r : Record) (s : Kept) (a : Answer) (t : Kept) → early started (Asks r) ≡ false → Promises (callOf r) s a t → Asked started r s a t
+pub answers-call : (started : Bool) (w : Word) (ns : List ℕ) (s : Kept) (a : Answer) (t : Kept) → early started w ≡ false → Promises (callOf w ns) s a t
+    → Answers started (callOf w ns) s a t
 unfolding early
-asked-call started r s a t e h = record { lengths = h .lengths; answer = answer; after = after }
+answers-call started w ns s a t e h = record { answer = answer; after = after }
   where
-    other : started ≡ false → isOther (resetTo r) ≡ false
-    other q = ap (λ (b : Bool). early b (Asks r)) (sym q) ∙ e
+    other : started ≡ false → isOther w ≡ false
+    other q = ap (λ (b : Bool). early b w) (sym q) ∙ e
 
-    answer : (o : Store) → Stored started s o → a ≡ answerTo (lengthsKept s) o r
-    answer none q = first r s a t (other q) h .answer
-    answer (some m) q = later-answer s t r a m (q .1) h
+    answer : (o : Store) → Stored started s o → a ≡ answerTo (lengthsKept s) o (callOf w ns)
+    answer none q = first w ns s a t (q .1) (other (q .0)) h .answer
+    answer (some m) q = later-answer s t (callOf w ns) a m (q .1) h
 
-    after : (o : Store) → Stored started s o → Stored (startedAfter started (numberIn a)) t (storeAfter (lengthsKept s) o r)
+    after : (o : Store) → Stored started s o → Stored (startedAfter started (numberIn a)) t (storeAfter (lengthsKept s) o (callOf w ns))
     after none q =
-        subst (λ (b : Bool). Stored (startedAfter b (numberIn a)) t (storeAfter (lengthsKept s) none r)) (sym q) (first r s a t (other q) h .stored)
-    after (some m) q = later-stored s t r a m q h
+        subst (λ (b : Bool). Stored (startedAfter b (numberIn a)) t (storeAfter (lengthsKept s) none (callOf w ns))) (sym (q .0)) (first w ns s a t (q .1) (other (q .0)) h .stored)
+    after (some m) q = later-stored s t (callOf w ns) a m q h
+
+-- A call that is refused leaves state and lent memory as they were.
+form-number : (a : Answer) → numberIn (formOf a) ≡ numberIn a
+unfolding numberIn
+form-number (outcome n) = refl
+form-number (reading n v o) = refl
+form-number (lending x) = refl
+form-number (counting n l p) = refl
+form-number (verdict n b) = refl
+
+pub named : (w : Word) (ns : List ℕ) (n : ℕ) (a : Answer) → formOf a ≡ formOf (refused n (callOf w ns)) → numberIn a ≡ n
+named w ns n a h = ((sym (form-number a) ∙ ap numberIn h) ∙ form-number (refused n (callOf w ns))) ∙ refused-number w ns n
+
+pub refused-same : (w : Word) (ns : List ℕ) (s : Kept) (a : Answer) (t : Kept) → Promises (callOf w ns) s a t → (numberIn a ≡ 0 → ⊥) → t ≡ s
+refused-same w ns s a t h d = h .refused-kept (λ z. d (named w ns _ a (h .number) ∙ z))

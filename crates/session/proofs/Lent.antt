@@ -1,18 +1,36 @@
--- The memory that the runner lends: a reset gets 6 exactly for otherwise good settings past it. And the empty session. Assumes nothing.
-use mathlib.Core.Path.{_≡_, refl, ap}
-use mathlib.Core.List.{[]}
-use mathlib.Core.Bool.{Bool, true, false, _&&_}
-use Prim.Native.Nat.{ℕ, _*_, _/_, _≤_, _<_}
+-- The memory that the runner lends: in every session a line gets 6 exactly if it is a reset to otherwise good settings past it. And the empty
+-- session. Assumes nothing.
+use mathlib.Core.Path.{_≡_, refl, sym, _∙_, ap, subst}
+use mathlib.Core.Logic.{⊎-elim}
+use mathlib.Core.Option.{Option, none, some}
+use mathlib.Core.List.{List, [], _∷_}
+use mathlib.Core.Bool.{Bool, true, false, not, cond, _&&_}
+use Prim.Native.Nat.{ℕ, zero, suc, _*_, _/_, _≤_, _<_}
 use native.Mathlib.Nat.{mul-le-mul-right, le-trans}
 use native.Mathlib.Omega.{arith}
-use borrow.Author.Tests.{leb-true, leb-false, le-leb, lt-leb}
-use lib.Dec.{leb}
+use borrow.Author.Tests.{leb-true, leb-false, le-leb, lt-leb, eqb-true, ne-eqb}
+use lib.Dec.{leb, eqb}
 use Rattle.rules.specs.Settings.{Settings, Pieces, within, elements, enough}
-use Rattle.rules.specs.Refusal.{unless, askedRefusal}
+use Rattle.rules.specs.Refusal.{Facts, unless, askedRefusal, stateRefusal, placeRefusal, writeRefusal, lineRefusal, markedRefusal, lacks, actRefusal, refusal}
+use Rattle.rules.specs.Call.{Act, Call, numberIn, refused}
+use Rattle.rules.specs.Call.Look.{LINE, LINE-REFUSAL, COUNTS}
+use Rattle.rules.specs.Call.Change.{WRITE, MARK, ROLLBACK, ADVANCE}
+use Rattle.rules.specs.Call.Act.{READ, LOOK, CHANGE}
+use Rattle.rules.specs.Call.Call.{RESET, CHECK, ON}
+use Rattle.rules.specs.Plain.{Plain, Model, plainSeen, plainFacts, plainRefusal, plainStep, modelAnswer, modelStep, fresh, freshModel}
+use Rattle.rules.specs.Promise.{formOf}
+use Rattle.rules.proofs.Promise.{accepted-form}
 use Rattle.rules.proofs.Settings.{Good, within-good}
-use Rattle.text.specs.Parts.{split}
+use Rattle.records.specs.declared.Word.{Word}
+use Rattle.records.specs.Records.{Asked, sameText, seldom, rows, wordIn, numbersIn, asked, withNumbers, recordIn, parsed}
+use Rattle.records.specs.Records.Asked.{asks, turned-down}
+use Rattle.records.proofs.Refusing.{turned-low}
+use Rattle.text.specs.Parts.{Text, split, linesOf}
 use Rattle.replies.specs.Answers.{endLine}
-use Rattle.session.specs.Transcript.{beginning, lineText, lineAfter, answersTo, transcript, runnerLent}
+use Rattle.replies.specs.Calls.{callOf}
+use Rattle.session.specs.Transcript.{Store, Running, resetIn, unstartedRefusal, unstartedStore, answerTo, storeAfter, lineAnswer, lineStore, beginning, lineText, lineAfter, answersTo, transcript, runnerLent, pastRoom, asksTooMuch, getsSix, SixExactly}
+use Rattle.session.proofs.Asking.{Resets, Acts, word-call, named}
+use Rattle.session.proofs.Tallies.{counted-store}
 
 -- Good settings within 512 lines and 256 pages need no more of any piece.
 module _ (s : Settings) (g : Good s) where
@@ -61,3 +79,144 @@ six-exactly asked = go (within asked) refl
 pub empty-session : (lengths : Pieces) → transcript lengths [] ≡ endLine 0 0
 unfolding transcript split answersTo lineText lineAfter beginning
 empty-session lengths = refl
+
+-- No other record gets 6: a session's store has memory enough for its settings, which only an accepted reset changes.
+abbrev pub Roomy : Pieces → Store → Type 0
+Roomy lengths none = Unit {0}
+Roomy lengths (some m) = enough (m .plain .settings) lengths ≡ true
+
+unless-not : (b : Bool) (n rest : ℕ) → (n ≡ 6 → ⊥) → (rest ≡ 6 → ⊥) → unless b n rest ≡ 6 → ⊥
+unfolding unless
+unless-not true n rest p q = q
+unless-not false n rest p q = p
+
+place-not : (s : Settings) (w a rest : ℕ) → (rest ≡ 6 → ⊥) → placeRefusal s w a rest ≡ 6 → ⊥
+unfolding placeRefusal
+place-not s w a rest q = unless-not _ 7 _ (λ d. omega arith) (unless-not _ 8 _ (λ d. omega arith) (unless-not _ 9 _ (λ d. omega arith) q))
+
+act-not : (g : Facts) (b : Bool) (a : Act) → actRefusal g b a ≡ 6 → ⊥
+unfolding actRefusal writeRefusal lineRefusal markedRefusal
+act-not g b (READ w x) = place-not _ w x 0 (λ d. omega arith)
+act-not g b (LOOK (LINE l)) = unless-not _ 9 0 (λ d. omega arith) (λ d. omega arith)
+act-not g b (LOOK (LINE-REFUSAL l)) = unless-not _ 9 0 (λ d. omega arith) (λ d. omega arith)
+act-not g b (LOOK COUNTS) = λ d. omega arith
+act-not g b (CHANGE (WRITE w x v)) = place-not _ w x _ (unless-not _ 10 _ (λ d. omega arith) (unless-not _ 13 0 (λ d. omega arith) (λ d. omega arith)))
+act-not g b (CHANGE MARK) = unless-not _ 12 0 (λ d. omega arith) (λ d. omega arith)
+act-not g b (CHANGE (ROLLBACK k)) = unless-not _ 11 0 (λ d. omega arith) (λ d. omega arith)
+act-not g b (CHANGE (ADVANCE k)) = unless-not _ 11 0 (λ d. omega arith) (λ d. omega arith)
+
+on-not : (lengths : Pieces) (p : Plain) (a : Act) → enough (p .settings) lengths ≡ true → plainRefusal lengths p (ON a) ≡ 6 → ⊥
+unfolding plainRefusal plainFacts refusal stateRefusal unless
+on-not lengths p a e d =
+    let lacking = lacks (p .settings) (plainSeen p) a in
+    act-not (plainFacts lengths p) lacking a (subst (λ (b : Bool). unless b 6 (actRefusal (plainFacts lengths p) lacking a) ≡ 6) e d)
+
+model-form : (n : ℕ) (m : Model) (c : Call) → formOf (modelAnswer n m c) ≡ formOf (refused n c)
+unfolding modelAnswer refused
+model-form zero m (RESET asked) = refl
+model-form zero m CHECK = refl
+model-form zero m (ON a) = accepted-form _ _ a
+model-form (suc n) m c = refl
+
+number-is : (m : Model) (w : Word) (ns : List ℕ) → numberIn (answerTo runnerLent (some m) (callOf w ns)) ≡ plainRefusal runnerLent (m .plain) (callOf w ns)
+unfolding answerTo
+number-is m w ns = named w ns _ _ (model-form _ m (callOf w ns))
+
+-- A reset gets 4, 6 or 0 for the settings that it asks for, and no other record gets 6.
+reset-number : (o : Store) (w : Word) (ns : List ℕ) (r : Resets w (callOf w ns)) → numberIn (answerTo runnerLent o (callOf w ns)) ≡ askedRefusal runnerLent (r .settings)
+unfolding answerTo unstartedRefusal resetIn numberIn plainRefusal plainFacts refusal
+reset-number none w ns r = ap (λ (c : Call). unstartedRefusal runnerLent (resetIn c)) (r .call)
+reset-number (some m) w ns r = number-is m w ns ∙ ap (plainRefusal runnerLent (m .plain)) (r .call)
+
+act-number : (o : Store) (w : Word) (ns : List ℕ) → Acts w (callOf w ns) → Roomy runnerLent o → numberIn (answerTo runnerLent o (callOf w ns)) ≡ 6 → ⊥
+unfolding answerTo unstartedRefusal resetIn numberIn
+act-number none w ns a q d =
+    let three : unstartedRefusal runnerLent (resetIn (callOf w ns)) ≡ 3 = ap (λ (c : Call). unstartedRefusal runnerLent (resetIn c)) (a .call) in
+    omega (arith, three, d)
+act-number (some m) w ns a q d =
+    on-not runnerLent (m .plain) (a .act) q (sym (ap (plainRefusal runnerLent (m .plain)) (a .call)) ∙ (sym (number-is m w ns) ∙ d))
+
+-- and what the session's store is after a record has enough again.
+asked-enough : (lengths : Pieces) (asked : Settings) → askedRefusal lengths asked ≡ 0 → enough asked lengths ≡ true
+unfolding askedRefusal unless
+asked-enough lengths asked = go (within asked) (enough asked lengths)
+  where
+    go : (a b : Bool) → unless a 4 (unless b 6 0) ≡ 0 → b ≡ true
+    go true true d = refl
+    go true false d = absurd (omega arith)
+    go false b d = absurd (omega arith)
+
+unstarted-roomy : (lengths : Pieces) (o : Option Settings) → Roomy lengths (unstartedStore lengths o)
+unfolding unstartedStore freshModel fresh
+unstarted-roomy lengths none = tt
+unstarted-roomy lengths (some asked) = go (eqb (askedRefusal lengths asked) 0) refl
+  where
+    go : (b : Bool) → eqb (askedRefusal lengths asked) 0 ≡ b → Roomy lengths (cond b (some (freshModel asked)) none)
+    go true e = asked-enough lengths asked (eqb-true _ 0 e)
+    go false e = tt
+
+step-settings : (a : Act) (p : Plain) → plainStep a p .settings ≡ p .settings
+unfolding plainStep
+step-settings (READ w x) p = refl
+step-settings (LOOK q) p = refl
+step-settings (CHANGE (WRITE w x v)) p = refl
+step-settings (CHANGE MARK) p = refl
+step-settings (CHANGE (ROLLBACK k)) p = refl
+step-settings (CHANGE (ADVANCE k)) p = refl
+
+step-roomy : (lengths : Pieces) (m : Model) (c : Call) (n : ℕ) → plainRefusal lengths (m .plain) c ≡ n → enough (m .plain .settings) lengths ≡ true
+    → enough (modelStep n m c .plain .settings) lengths ≡ true
+unfolding modelStep freshModel fresh plainRefusal plainFacts refusal
+step-roomy lengths m (RESET asked) zero e q = asked-enough lengths asked e
+step-roomy lengths m CHECK zero e q = q
+step-roomy lengths m (ON a) zero e q = subst (λ (s : Settings). enough s lengths ≡ true) (sym (step-settings a (m .plain))) q
+step-roomy lengths m c (suc n) e q = q
+
+call-roomy : (lengths : Pieces) (o : Store) (c : Call) → Roomy lengths o → Roomy lengths (storeAfter lengths o c)
+unfolding storeAfter
+call-roomy lengths none c q = unstarted-roomy lengths (resetIn c)
+call-roomy lengths (some m) c q = step-roomy lengths m c _ refl q
+
+asked-six : (s : Settings) → eqb (askedRefusal runnerLent s) 6 ≡ pastRoom (some s)
+unfolding pastRoom unless
+asked-six s = ap (λ (n : ℕ). eqb n 6) (six-exactly s) ∙ go (within s) (leb (s .lines) 512 && leb (s .pages) 256)
+  where
+    go : (a b : Bool) → eqb (unless a 4 (unless b 6 0)) 6 ≡ a && not b
+    go true true = refl
+    go true false = refl
+    go false b = refl
+
+module _ (x : Running) (q : Roomy runnerLent (x .store)) where
+  -- a line: 1 and 2 are not 6
+  asked-exactly : (p : Asked) → ((n : ℕ) → p ≡ turned-down n → n ≤ 2) → eqb (numberIn (lineAnswer runnerLent (x .store) p)) 6 ≡ asksTooMuch p
+  unfolding lineAnswer numberIn asksTooMuch resetIn pastRoom
+  asked-exactly (turned-down n) h = ne-eqb n 6 (λ e. omega (arith, h n refl, e))
+  asked-exactly (asks w ns) h =
+      ⊎-elim
+      (λ r. ap (λ (n : ℕ). eqb n 6) (reset-number (x .store) w ns r) ∙ (asked-six (r .settings) ∙ sym (ap (λ (c : Call). pastRoom (resetIn c)) (r .call))))
+      (λ a. ne-eqb _ 6 (act-number (x .store) w ns a q) ∙ sym (ap (λ (c : Call). pastRoom (resetIn c)) (a .call)))
+      (word-call w ns)
+
+  line-exactly : (line : Text) → getsSix x line ≡ asksTooMuch (parsed line)
+  unfolding getsSix asksTooMuch parsed recordIn withNumbers asked wordIn rows seldom sameText numbersIn split
+  line-exactly [] = refl
+  line-exactly (b ∷ bs) = asked-exactly (parsed (b ∷ bs)) (turned-low (b ∷ bs))
+
+  line-roomy : (line : Text) → Roomy runnerLent (lineAfter runnerLent x line .store)
+  unfolding lineAfter lineStore
+  line-roomy [] = q
+  line-roomy (b ∷ bs) =
+      subst (Roomy runnerLent) (sym (counted-store _ x (lineStore runnerLent (x .store) (parsed (b ∷ bs))))) (go (parsed (b ∷ bs)))
+    where
+      go : (p : Asked) → Roomy runnerLent (lineStore runnerLent (x .store) p)
+      go (turned-down n) = q
+      go (asks w ns) = call-roomy runnerLent (x .store) (callOf w ns) q
+
+lines-exactly : (x : Running) (lines : List Text) → Roomy runnerLent (x .store) → SixExactly x lines
+lines-exactly x [] q = tt
+lines-exactly x (line ∷ lines) q = (line-exactly x q line, lines-exactly (lineAfter runnerLent x line) lines (line-roomy x q line))
+
+-- Of every session: a line gets 6 exactly if it is a reset to otherwise good settings past the memory that the runner lends.
+pub session-six : (input : Text) → SixExactly beginning (linesOf input)
+unfolding beginning
+session-six input = lines-exactly beginning (linesOf input) tt

@@ -1,5 +1,12 @@
-pub mod Asking
+pub mod Telling
+pub mod Lines
 pub mod Tallies
+pub mod Asking
 pub mod Answering
+pub mod Stepping
+pub mod Resting
+pub mod Feeding
 pub mod Streaming
 pub mod Lent
+pub mod Whole
+pub mod Finishing

@@ -1,5 +1,5 @@
 -- The tally, answer by answer. Assumes nothing.
-use mathlib.Core.Path.{_≡_, refl, sym, subst}
+use mathlib.Core.Path.{_≡_, refl, sym, _∙_, ap, ap₂}
 use mathlib.Core.Bool.{Bool, true, false, cond}
 use Prim.Native.Nat.{ℕ, zero, suc, _+_, min}
 use native.Mathlib.Omega.{arith}
@@ -9,6 +9,7 @@ use Rattle.rules.specs.Call.{Answer, numberIn}
 use Rattle.tally.specs.declared.Tally.{Tally}
 use Rattle.tally.specs.Counts.{most, oneMore, tallyOf, tallyAfter}
 use Rattle.session.specs.Transcript.{Store, Running, counted}
+use Rattle.session.specs.Running.{tallyOn}
 
 -- One more beside the true count.
 more-min : (n k : ℕ) → n ≡ min most k → oneMore n ≡ min most (suc k)
@@ -19,33 +20,34 @@ more-min n k e = go (ltb n most) refl
     go true d = omega (arith, ltb-true n most d)
     go false d = omega (arith, ltb-false n most d)
 
--- The tally in code stays beside the transcript's.
-pub record SameTally (t : Tally) (x : Running) : Type 0 where
-  pub oks : t .oks ≡ min most (x .oks)
-  pub noes : t .noes ≡ min most (x .noes)
-
 abbrev okAfter : Running → Store → Running
 okAfter x o = record { store = o; oks = suc (x .oks); noes = x .noes }
 
 abbrev noAfter : Running → Store → Running
 noAfter x o = record { store = o; oks = x .oks; noes = suc (x .noes) }
 
-module _ (t : Tally) (x : Running) (a : Answer) (o : Store) (q : SameTally t x) where
-  tally-ok : numberIn a ≡ 0 → SameTally (tallyAfter t 0) (counted a x o)
+module _ (t : Tally) (x : Running) (a : Answer) (o : Store) (q : t ≡ tallyOn x) where
+  oks-is : t .oks ≡ min most (x .oks)
+  oks-is = ap (λ (s : Tally). s .oks) q
+
+  noes-is : t .noes ≡ min most (x .noes)
+  noes-is = ap (λ (s : Tally). s .noes) q
+
+  -- The tally in code stays beside the transcript's.
+  tally-ok : numberIn a ≡ 0 → tallyAfter t 0 ≡ tallyOn (counted a x o)
   unfolding tallyAfter counted
   tally-ok e =
-      subst (λ (b : Bool). SameTally (tallyOf (oneMore (t .oks)) (t .noes)) (cond b (okAfter x o) (noAfter x o))) (sym (eq-eqb (numberIn a) 0 e))
-      (record { oks = more-min (t .oks) (x .oks) (q .oks); noes = q .noes })
+      ap₂ tallyOf (more-min (t .oks) (x .oks) oks-is) noes-is
+      ∙ sym (ap (λ (b : Bool). tallyOn (cond b (okAfter x o) (noAfter x o))) (eq-eqb (numberIn a) 0 e))
 
-  tally-no : (n : ℕ) → numberIn a ≡ suc n → SameTally (tallyAfter t (suc n)) (counted a x o)
+  tally-no : (n : ℕ) → numberIn a ≡ suc n → tallyAfter t (suc n) ≡ tallyOn (counted a x o)
   unfolding tallyAfter counted
   tally-no n e =
-      subst (λ (b : Bool). SameTally (cond b (tallyOf (oneMore (t .oks)) (t .noes)) (tallyOf (t .oks) (oneMore (t .noes)))) (cond (eqb (numberIn a) 0) (okAfter x o) (noAfter x o)))
-      (sym (ne-eqb (suc n) 0 (λ d. omega arith)))
-      (subst (λ (b : Bool). SameTally (tallyOf (t .oks) (oneMore (t .noes))) (cond b (okAfter x o) (noAfter x o))) (sym (ne-eqb (numberIn a) 0 (λ d. omega arith)))
-      (record { oks = q .oks; noes = more-min (t .noes) (x .noes) (q .noes) }))
+      ap (λ (b : Bool). cond b (tallyOf (oneMore (t .oks)) (t .noes)) (tallyOf (t .oks) (oneMore (t .noes)))) (ne-eqb (suc n) 0 (λ d. omega arith))
+      ∙ (ap₂ tallyOf oks-is (more-min (t .noes) (x .noes) noes-is)
+      ∙ sym (ap (λ (b : Bool). tallyOn (cond b (okAfter x o) (noAfter x o))) (ne-eqb (numberIn a) 0 (λ d. omega arith))))
 
-  pub tally-next : (n : ℕ) → numberIn a ≡ n → SameTally (tallyAfter t n) (counted a x o)
+  pub tally-next : (n : ℕ) → numberIn a ≡ n → tallyAfter t n ≡ tallyOn (counted a x o)
   tally-next zero e = tally-ok e
   tally-next (suc n) e = tally-no n e
 

@@ -1,3 +1,4 @@
 pub mod Transcript
 pub mod Running
+pub mod Between
 pub mod Streamed

@@ -1,75 +1,57 @@
--- The runner in code beside the runner of the transcript.
-use Prim.Native.Nat.{ℕ, _≤_, min}
+-- The runner in code beside the runner of the transcript: what `start`, `feed` and `finish` promise.
+use Prim.Native.Nat.{ℕ, _+_, _≤_, _<_, min}
 use mathlib.Core.Path.{_≡_}
-use mathlib.Core.Bool.{Bool, true, false, _||_}
-use mathlib.Core.Option.{Option, none, some}
+use mathlib.Core.Bool.{Bool, true, false}
+use mathlib.Core.Option.{none, some}
 use mathlib.Core.List.{[], _++_}
-use lib.Dec.{eqb}
 use lib.ListN.{length, take, drop}
-use Rattle.text.specs.Parts.{Text, split}
+use Rattle.text.specs.Parts.{Text, split, upTo}
 use Rattle.text.specs.Lines.{Holds}
-use Rattle.rules.specs.Settings.{Settings}
-use Rattle.rules.specs.Call.{Answer, numberIn}
-use Rattle.records.specs.declared.Record.{Record}
-use Rattle.records.specs.declared.Parsed.{Parsed}
-use Rattle.records.specs.declared.Parsed.the-variants.{Asks, Refused}
-use Rattle.tally.specs.Counts.{most, tallyAfter}
-use Rattle.store.specs.Shown.{StoreState, Lent, Kept, kept, lengthsOf, lengthsKept, AnswersAs}
+use Rattle.tally.specs.declared.Tally.{Tally}
+use Rattle.tally.specs.Counts.{most, tallyOf}
+use Rattle.store.specs.Shown.{StoreState, blankState, Lent, Kept, kept, lengthsOf, AnswersAs}
+use Rattle.replies.specs.Answers.{longest, longestEnd}
 use Rattle.session.specs.declared.Runner.{Runner}
-use Rattle.session.specs.declared.Answered.{Answered}
-use Rattle.replies.specs.declared.Line.{Line}
-use Rattle.replies.specs.declared.Shown.{Shown}
-use Rattle.replies.specs.Answers.{answerLine}
-use Rattle.replies.specs.Lines.{answerOf, HoldsText}
-use Rattle.session.specs.Transcript.{Store, Running, resetTo, answerTo, storeAfter, lineText, lineAfter, answersTo}
+use Rattle.session.specs.Transcript.{Store, Running, Told, lineAfter, answersTo, toldTo}
 
--- Whether a reset was accepted, after an answer of refusal n or 0. (Before the first accepted reset no other record is.)
-unfoldable pub startedAfter : Bool → ℕ → Bool
-startedAfter started n = started || eqb n 0
-
--- The state and lent memory that a session's store stands for.
+-- The state and lent memory that a session's store stands for: "Before the first reset that is the blank state, with L = 0".
 abbrev pub Stored : Bool → Kept → Store → Type 0
-Stored started s none = started ≡ false
+Stored started s none = (started ≡ false) × (s .state ≡ blankState)
 Stored started s (some m) = (started ≡ true) × AnswersAs s m
 
--- Whether a record is another than `reset`.
-unfoldable pub isOther : Option Settings → Bool
-isOther none = true
-isOther (some asked) = false
+-- The state and lent memory of a runner.
+abbrev pub keptBy : Runner → Lent → Kept
+keptBy r m = kept (r .state) m
 
--- Whether a line is such a record, before the first accepted reset: 1 and 2 come before 3.
-unfoldable pub early : (started : Bool) → Parsed → Bool
-early true parsed = false
-early false (Refused n) = false
-early false (Asks r) = isOther (resetTo r)
+-- The tally as the code counts it: up to the last 64-bit number.
+abbrev pub tallyOn : Running → Tally
+tallyOn x = tallyOf (min most (x .oks)) (min most (x .noes))
 
--- The answer to a record, whatever the session's store was, and what is left.
-pub record Asked (started : Bool) (c : Record) (s : Kept) (a : Answer) (t : Kept) : Type 0 where
-  pub lengths : lengthsKept t ≡ lengthsKept s
-  pub answer : (o : Store) → Stored started s o → a ≡ answerTo (lengthsKept s) o c
-  pub after : (o : Store) → Stored started s o → Stored (startedAfter started (numberIn a)) t (storeAfter (lengthsKept s) o c)
-
--- The runner after an answer.
-pub record Replied (r : Runner) (started : Bool) (state : StoreState) (n : ℕ) (shown : Shown) (a : Answered) : Type 0 where
-  pub state-is : a .runner .state ≡ state
-  pub started-is : a .runner .started ≡ started
-  pub tally : a .runner .tally ≡ tallyAfter (r .tally) n
-  pub reader : Holds (a .runner .reader) []
-  pub line : HoldsText (a .line) (answerLine (answerOf n shown))
-
--- The runner in code and its lent memory stand for a runner of the transcript that has read a part of a line.
+-- The runner in code and its lent memory stand for a runner of the transcript that has read a part of a line: no line feed is in it.
 pub record StandsFor (r : Runner) (lent : Lent) (x : Running) (begun : Text) : Type 0 where
   pub reader : Holds (r .reader) begun
-  pub oks : r .tally .oks ≡ min most (x .oks)
-  pub noes : r .tally .noes ≡ min most (x .noes)
-  pub store : Stored (r .started) (kept (r .state) lent) (x .store)
+  pub part : length begun ≤ upTo 10 begun
+  pub tally : r .tally ≡ tallyOn x
+  pub store : Stored (r .started) (keptBy r lent) (x .store)
 
--- The answer to the line that was read, whichever runner of the transcript it was.
-pub record AnswersLine (r : Runner) (before : Lent) (s : Runner) (after : Lent) (line : Line) : Type 0 where
+-- It takes as many bytes, says what, and then stands for what the transcript's runner x is told. Where no line was accepted, state and lent
+-- memory are as they were.
+abbrev pub Tells : (before : Kept) (x : Running) (s : Runner) (after : Lent) (used : ℕ) (said : Text) → Told → Type 0
+Tells before x s after used said t =
+    (used ≡ t .used) × (said ≡ t .said) × StandsFor s after (t .running) (t .left) × (t .running .oks ≡ x .oks → keptBy s after ≡ before)
+
+-- What a call of `feed` does with a chunk, and with all the room of the output. Less room than the longest answer, and nothing is taken; the
+-- output past what is said is untouched.
+pub record Taken (r : Runner) (before : Lent) (chunk first : Text) (s : Runner) (after : Lent) (out : Text) (used filled : ℕ) : Type 0 where
   pub lengths : lengthsOf after ≡ lengthsOf before
-  pub few : line .count ≤ 64
-  pub text : (x : Running) (begun : Text) → StandsFor r before x begun → take (line .count) (line .bytes) ≡ lineText (lengthsOf before) x begun
-  pub stands : (x : Running) (begun : Text) → StandsFor r before x begun → StandsFor s after (lineAfter (lengthsOf before) x begun) []
+  pub within : used ≤ length chunk
+  pub moves : longest ≤ length first → 0 < length chunk → 0 < used
+  pub same-room : length out ≡ length first
+  pub few : filled ≤ length out
+  pub rest : drop filled out ≡ drop filled first
+  pub full : length first < longest → (s ≡ r) × (after ≡ before) × (used ≡ 0) × (filled ≡ 0)
+  pub tells : (x : Running) (begun : Text) → StandsFor r before x begun
+      → Tells (keptBy r before) x s after used (take filled out) (toldTo (lengthsOf before) (length first) x begun chunk)
 
 -- Some bytes of a chunk taken: what is said to them, and then to what is left of the chunk and whatever follows it, is what the transcript
 -- says to all.
@@ -85,3 +67,17 @@ pub record Continues (r : Runner) (before : Lent) (chunk : Text) (s : Runner) (a
 -- The end of input, within a line that was begun: what is said then ends the transcript.
 abbrev pub Ends : Runner → Lent → (said : Text) → Type 0
 Ends r m said = (x : Running) (begun : Text) → StandsFor r m x begun → said ≡ answersTo (lengthsOf m) x (split 10 begun [])
+
+-- The end of input: nothing is done with an output that has not room for the longest answer and the longest line of the tally; else the answer to
+-- the line that was begun and the tally are put, the output past them is untouched, and the lent memory is what that line leaves: where it was not
+-- accepted, what it was.
+pub record Finishes (r : Runner) (before : Lent) (first : Text) (after : Lent) (out : Text) (end : ℕ) : Type 0 where
+  pub lengths : lengthsOf after ≡ lengthsOf before
+  pub same-room : length out ≡ length first
+  pub few : end ≤ length out
+  pub rest : drop end out ≡ drop end first
+  pub full : length first < longest + longestEnd → (end ≡ 0) × (out ≡ first) × (after ≡ before)
+  pub ends : longest + longestEnd ≤ length first → Ends r before (take end out)
+  pub leaves : longest + longestEnd ≤ length first → (x : Running) (begun : Text) → StandsFor r before x begun
+      → (state : StoreState) × (started : Bool) × Stored started (kept state after) (lineAfter (lengthsOf before) x begun .store)
+  pub refused-kept : longest + longestEnd ≤ length first → (x : Running) (begun : Text) → StandsFor r before x begun → lineAfter (lengthsOf before) x begun .oks ≡ x .oks → after ≡ before

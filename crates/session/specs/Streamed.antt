@@ -7,7 +7,7 @@ use Rattle.store.specs.Shown.{Lent}
 use Rattle.session.specs.declared.Runner.{Runner}
 use Rattle.session.specs.Running.{Continues}
 
--- The calls of `feed` or `feed_all` on an input, and the bytes that they say: each is given any first part of what is still to come, and the
+-- The calls of `feed` on an input, and the bytes that they say: each is given any first part of what is still to come, and the
 -- next one the runner and lent memory that it left.
 pub data Feeds : Runner → Lent → (input said : Text) → Runner → Lent → Type 0 where
   stop : {r : Runner} {m : Lent} → Feeds r m [] [] r m

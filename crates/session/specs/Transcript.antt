@@ -1,34 +1,30 @@
 -- The transcript of a whole session as a function of its bytes, over the plain store's answers. Quotations are of document 01.
-use Prim.Native.Nat.{ℕ, suc, min}
-use mathlib.Core.Bool.{cond}
+use Prim.Native.Nat.{ℕ, suc, _+_, _-_, min}
+use mathlib.Core.Path.{_≡_}
+use mathlib.Core.Bool.{Bool, false, not, cond, _&&_}
 use mathlib.Core.Option.{Option, none, some}
 use mathlib.Core.List.{List, [], _∷_, _++_}
-use lib.Dec.{eqb}
+use lib.Dec.{leb, ltb, eqb}
+use lib.ListN.{length}
 use Rattle.text.specs.Parts.{Text, linesOf}
-use Rattle.records.specs.declared.Record.{Record}
-use Rattle.records.specs.declared.Record.the-variants.{Reset, Read, Write, Mark, Back, Advance, Counts}
-use Rattle.records.specs.declared.Parsed.{Parsed}
-use Rattle.records.specs.declared.Parsed.the-variants.{Asks, Refused}
-use Rattle.records.specs.Records.{parsed}
-use Rattle.rules.specs.Settings.{Settings, Pieces, elements}
+use Rattle.records.specs.Records.{Asked, parsed}
+use Rattle.records.specs.Records.Asked.{asks, turned-down}
+use Rattle.rules.specs.Settings.{Settings, Pieces, within, elements}
 use Rattle.rules.specs.Sizing.{settingsOf}
 use Rattle.rules.specs.Call.{Call, Answer, numberIn}
 use Rattle.rules.specs.Call.Answer.{outcome}
+use Rattle.rules.specs.Call.Call.{RESET, CHECK, ON}
 use Rattle.rules.specs.Refusal.{askedRefusal}
 use Rattle.rules.specs.Plain.{Model, plainRefusal, modelAnswer, modelStep, freshModel}
 use Rattle.tally.specs.Counts.{most}
 use Rattle.replies.specs.Calls.{callOf}
-use Rattle.replies.specs.Answers.{answerLine, endLine}
+use Rattle.replies.specs.Answers.{answerLine, endLine, longest}
 
--- The settings that a `reset` asks for; none for any other record.
-unfoldable pub resetTo : Record → Option Settings
-resetTo (Reset lines frames pages) = some (settingsOf lines frames pages)
-resetTo (Read width address) = none
-resetTo (Write width address value) = none
-resetTo Mark = none
-resetTo (Back k) = none
-resetTo (Advance k) = none
-resetTo Counts = none
+-- The settings that a call asks for, if it is a RESET.
+unfoldable pub resetIn : Call → Option Settings
+resetIn (RESET asked) = some asked
+resetIn CHECK = none
+resetIn (ON a) = none
 
 -- A session's store: none before the first accepted reset, then the plain store with its cache.
 abbrev pub Store : Type 0
@@ -65,25 +61,25 @@ module _ (lengths : Pieces) where
   abbrev pub modelRefusal : Model → Call → ℕ
   modelRefusal m c = plainRefusal lengths (m .plain) c
 
-  -- The answer to a record,
-  unfoldable pub answerTo : Store → Record → Answer
-  answerTo none r = outcome (unstartedRefusal (resetTo r))
-  answerTo (some m) r = modelAnswer (modelRefusal m (callOf r)) m (callOf r)
+  -- The answer to a record's call,
+  unfoldable pub answerTo : Store → Call → Answer
+  answerTo none c = outcome (unstartedRefusal (resetIn c))
+  answerTo (some m) c = modelAnswer (modelRefusal m c) m c
 
   -- and the store after it: "A refused call .. changes nothing", so that a refused reset leaves the old store, or none.
-  unfoldable pub storeAfter : Store → Record → Store
-  storeAfter none r = unstartedStore (resetTo r)
-  storeAfter (some m) r = some (modelStep (modelRefusal m (callOf r)) m (callOf r))
+  unfoldable pub storeAfter : Store → Call → Store
+  storeAfter none c = unstartedStore (resetIn c)
+  storeAfter (some m) c = some (modelStep (modelRefusal m c) m c)
 
   -- The answer to a line and the store after it: 1 and 2 come first, then 3 and the call's own. "Each is given if its condition holds and no
   -- earlier one does, never otherwise."
-  unfoldable pub lineAnswer : Store → Parsed → Answer
-  lineAnswer store (Refused n) = outcome n
-  lineAnswer store (Asks r) = answerTo store r
+  unfoldable pub lineAnswer : Store → Asked → Answer
+  lineAnswer store (turned-down n) = outcome n
+  lineAnswer store (asks w ns) = answerTo store (callOf w ns)
 
-  unfoldable pub lineStore : Store → Parsed → Store
-  lineStore store (Refused n) = store
-  lineStore store (Asks r) = storeAfter store r
+  unfoldable pub lineStore : Store → Asked → Store
+  lineStore store (turned-down n) = store
+  lineStore store (asks w ns) = storeAfter store (callOf w ns)
 
   -- What a line is answered with, and the runner after it. "An empty line gets no answer."
   unfoldable pub lineText : Running → Text → Text
@@ -103,7 +99,47 @@ module _ (lengths : Pieces) where
   unfoldable pub transcript : Text → Text
   transcript input = answersTo beginning (linesOf input)
 
--- "It answers 6 exactly for otherwise good settings with L above 512 or P above 256": the lengths that the runner lends. (proofs/Lent.antt
--- proves the sentence of a reset.)
+-- What is done with some bytes of input: how many are taken, what is said to them, the runner after them, and the line that they leave begun.
+pub record Told : Type 0 where
+  pub used : ℕ
+  pub said : Text
+  pub running : Running
+  pub left : Text
+
+unfoldable pub stopped : Running → Text → Told
+stopped x begun = record { used = 0; said = []; running = x; left = begun }
+
+unfoldable pub onward : ℕ → Text → Told → Told
+onward n text t = record { used = n + t .used; said = text ++ t .said; running = t .running; left = t .left }
+
+module _ (lengths : Pieces) where
+  -- Bytes are taken while the output has room for the longest answer: whole lines, and the beginning of one that does not end here.
+  unfoldable pub toldTo : (room : ℕ) → Running → (begun : Text) → Text → Told
+  toldTo room x begun [] = stopped x begun
+  toldTo room x begun (b ∷ bs) =
+      cond (ltb room longest) (stopped x begun)
+      (cond (eqb b 10) (onward 1 (lineText lengths x begun) (toldTo (room - length (lineText lengths x begun)) (lineAfter lengths x begun) [] bs))
+      (onward 1 [] (toldTo room x (begun ++ (b ∷ [])) bs)))
+
+-- "It answers 6 exactly for otherwise good settings with L above 512 or P above 256": the lengths that the runner lends,
 unfoldable pub runnerLent : Pieces
 runnerLent = elements (settingsOf 512 256 256)
+
+-- whether a line asks for such settings,
+unfoldable pub pastRoom : Option Settings → Bool
+pastRoom none = false
+pastRoom (some s) = within s && not (leb (s .lines) 512 && leb (s .pages) 256)
+
+unfoldable pub asksTooMuch : Asked → Bool
+asksTooMuch (turned-down n) = false
+asksTooMuch (asks w ns) = pastRoom (resetIn (callOf w ns))
+
+-- whether it is answered with 6,
+unfoldable pub getsSix : Running → Text → Bool
+getsSix x [] = false
+getsSix x (b ∷ bs) = eqb (numberIn (lineAnswer runnerLent (x .store) (parsed (b ∷ bs)))) 6
+
+-- and that these are the same, line after line.
+abbrev pub SixExactly : Running → List Text → Type 0
+SixExactly x [] = Unit {0}
+SixExactly x (line ∷ lines) = (getsSix x line ≡ asksTooMuch (parsed line)) × SixExactly (lineAfter runnerLent x line) lines

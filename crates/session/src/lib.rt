@@ -1,21 +1,25 @@
 // A session: its lines in, their answers out, over the store's promises.
 use records::Parsed;
 use records::Record;
-pub use replies::Line;
-use replies::Reply;
+use records::Word;
+use replies::LONGEST;
+use replies::LONGEST_END;
 use replies::Shown;
 use store::State;
 use tally::Tally;
 use text::Reader;
 ghost use mathlib.Core.Path.{_≡_};
 ghost use mathlib.Core.List.{[]};
-ghost use Prim.Native.Nat.{_≤_, _<_};
-ghost use lib.ListN.{length, take};
+ghost use Prim.Native.Nat.{_≤_};
+ghost use lib.ListN.{length};
+ghost use Rattle.records.specs.Records.{parsed};
+ghost use Rattle.records.specs.Shown.{shownParsed};
 ghost use Rattle.store.specs.Shown.{Lent, lentOf};
-ghost use Rattle.session.specs.Transcript.{resetTo, beginning};
-ghost use Rattle.session.specs.Running.{isOther, early, startedAfter, Replied, StandsFor, AnswersLine, Continues, Ends};
+ghost use Rattle.session.specs.Transcript.{beginning};
+ghost use Rattle.session.specs.Running.{StandsFor, Taken, Finishes};
+ghost use Rattle.session.specs.Between.{isOther, early, admitted, startedAfter, deskOf, Lines, Ended, Rested};
 
-// The runner between two bytes of its input: the store's state and whether a reset was accepted, the tally, and the line that is being read.
+// The runner between two bytes of its input: the store's state and whether a reset was accepted, the tally, and the line that is not whole yet.
 pub struct Runner {
     pub state: State,
     pub started: bool,
@@ -23,21 +27,17 @@ pub struct Runner {
     pub reader: Reader,
 }
 
-// The runner after a line, and what it says to it.
+// What lines leave: the state, whether a reset was accepted, and the tally; how far their text was taken, and the output filled.
 struct Answered {
-    runner: Runner,
-    line: Line,
-}
-
-// The runner after some bytes of input, what it says to them, and how many they were.
-pub struct Fed {
-    pub runner: Runner,
-    pub line: Line,
-    pub used: usize,
+    state: State,
+    started: bool,
+    tally: Tally,
+    used: usize,
+    filled: usize,
 }
 
 // The runner after some bytes of input, how many they were, and how many bytes of output it put.
-pub struct FedAll {
+pub struct Fed {
     pub runner: Runner,
     pub used: usize,
     pub filled: usize,
@@ -58,32 +58,45 @@ pub fn start() -> Runner
     }
 }
 
-// Whether a record is another than a reset.
-fn is_other(asked: Record) -> bool
-    ensures { λ r. ⌜ r ≡ isOther (resetTo asked) ⌝ }
+// Whether a word is another than `reset`.
+fn is_other(word: Word) -> bool
+    ensures { λ r. ⌜ r ≡ isOther word ⌝ }
 {
-    match asked {
-        Record::Reset(lines, frames, pages) => false,
-        Record::Read(width, address) => true,
-        Record::Write(width, address, value) => true,
-        Record::Mark => true,
-        Record::Back(k) => true,
-        Record::Advance(k) => true,
-        Record::Counts => true,
+    match word {
+        Word::Reset => false,
+        Word::Read => true,
+        Word::Write => true,
+        Word::Mark => true,
+        Word::Back => true,
+        Word::Advance => true,
+        Word::Counts => true,
     }
 }
 
-// Whether a line is a record other than a reset, before the first accepted reset.
-fn is_early(started: bool, parsed: Parsed) -> bool
-    ensures { λ r. ⌜ r ≡ early started parsed ⌝ }
+// Whether a word is another than `reset`, before the first accepted reset.
+fn is_early(started: bool, word: Word) -> bool
+    ensures { λ r. ⌜ r ≡ early started word ⌝ }
 {
     if started {
         return false;
     }
-    match parsed {
-        Parsed::Refused(n) => false,
-        Parsed::Asks(asked) => is_other(asked),
+    is_other(word)
+}
+
+// What a line asks for, or its refusal of 1 to 3.
+fn ask(started: bool, line: &[u8]) -> Parsed
+    ensures { λ r. ⌜ shownParsed r ≡ admitted started (parsed (now (line .entry))) ⌝ }
+{
+    let parsed = records::parse(line);
+    if parsed.refusal != 0 {
+        return parsed;
     }
+    let entry = parsed.entry;
+    let word = entry.word;
+    if is_early(started, word) {
+        return Parsed { refusal: 3, entry };
+    }
+    parsed
 }
 
 // Whether a reset was accepted, now that a record got a refusal or 0.
@@ -99,81 +112,148 @@ fn has_started(started: bool, refusal: u32) -> bool
     false
 }
 
-// The runner after an answer, and the answer's line.
-fn replied(runner: Runner, started: bool, reply: Reply) -> Answered
-    ensures { λ r. ⌜ Replied runner started (reply .state) (reply .refusal) (reply .shown) r ⌝ }
-{
-    let refusal = reply.refusal;
-    let shown = reply.shown;
-    let state = reply.state;
-    let before = runner.tally;
-    let tally = tally::tallied(before, refusal);
-    let reader = text::no_line();
-    let line = replies::answer_line(refusal, shown);
-    Answered {
-        runner: Runner {
-            state,
-            started,
-            tally,
-            reader,
-        },
-        line,
-    }
-}
-
-// The answer to the line that was read.
-fn answer(
-    runner: Runner,
+// Answers the lines that end in a text from a place on, while the output has room for the longest answer.
+fn answer_lines(
+    before: State,
+    begun: bool,
+    sum: Tally,
     archive: &mut [u8],
     pool: &mut [u8],
     groups: &mut [u32],
     table: &mut [u16],
     owners: &mut [u32],
     history: &mut [u16],
+    chunk: &[u8],
+    from: usize,
+    out: &mut [u8],
+    at: usize,
 ) -> Answered
-    ensures { λ r. ⌜ AnswersLine runner
-        (lentOf (now (archive .entry)) (now (pool .entry)) (now (groups .entry)) (now (table .entry)) (now (owners .entry)) (now (history .entry)))
-        (r .runner)
-        (lentOf (now (archive .exit)) (now (pool .exit)) (now (groups .exit)) (now (table .exit)) (now (owners .exit)) (now (history .exit)))
-        (r .line) ⌝ }
+    requires { ⌜ (from ≤ length (now chunk)) × (at ≤ length (now out)) ⌝ }
+    ensures { λ r. ⌜ Lines
+        (deskOf before begun sum (lentOf (now (archive .entry)) (now (pool .entry)) (now (groups .entry)) (now (table .entry)) (now (owners .entry)) (now (history .entry))))
+        (now (chunk .entry)) from (now (out .entry)) at
+        (deskOf (r .state) (r .started) (r .tally) (lentOf (now (archive .exit)) (now (pool .exit)) (now (groups .exit)) (now (table .exit)) (now (owners .exit)) (now (history .exit))))
+        (now (out .exit)) (r .used) (r .filled)
+        × Ended (now (chunk .entry)) (length (now (out .entry))) (r .used) (r .filled) ⌝ }
 {
-    let reader = runner.reader;
-    if reader.count == 0 {
-        let line = replies::no_text();
-        return Answered { runner, line };
-    }
-    let state = runner.state;
-    let parsed = records::parse(reader);
-    if is_early(runner.started, parsed) {
-        return replied(
-            runner,
-            runner.started,
-            Reply {
+    let count = chunk.len();
+    let room = out.len();
+    let mut state = before;
+    let mut started = begun;
+    let mut tally = sum;
+    let mut used = from;
+    let mut filled = at;
+    while LONGEST <= room - filled {
+        let end = text::part_end(chunk, used, 10);
+        if count <= end {
+            return Answered {
                 state,
-                refusal: 3,
-                shown: Shown::Nothing,
-            },
-        );
-    }
-    match parsed {
-        Parsed::Refused(refusal) => replied(
-            runner,
-            runner.started,
-            Reply {
-                state,
-                refusal,
-                shown: Shown::Nothing,
-            },
-        ),
-        Parsed::Asks(asked) => {
-            let reply = replies::call(state, archive, pool, groups, table, owners, history, asked);
-            let started = has_started(runner.started, reply.refusal);
-            replied(runner, started, reply)
+                started,
+                tally,
+                used,
+                filled,
+            };
         }
+        if end <= used {
+            used = end + 1;
+            continue;
+        }
+        let asked = ask(started, &chunk[used..end]);
+        let turned = asked.refusal;
+        if turned != 0 {
+            filled = replies::put_answer(out, filled, turned, Shown::Nothing);
+            tally = tally::tallied(tally, turned);
+            used = end + 1;
+            continue;
+        }
+        let entry = asked.entry;
+        let reply = replies::call(state, archive, pool, groups, table, owners, history, entry);
+        let refusal = reply.refusal;
+        let shown = reply.shown;
+        state = reply.state;
+        filled = replies::put_answer(out, filled, refusal, shown);
+        tally = tally::tallied(tally, refusal);
+        started = has_started(started, refusal);
+        used = end + 1;
+    }
+    Answered {
+        state,
+        started,
+        tally,
+        used,
+        filled,
     }
 }
 
-// Takes bytes of input up to the end of a line, or all of the chunk, and says what the runner says to them.
+// Answers the lines that end in a chunk from a place on, and keeps what is left of it, if there is room.
+fn feed_rest(
+    before: State,
+    begun: bool,
+    sum: Tally,
+    archive: &mut [u8],
+    pool: &mut [u8],
+    groups: &mut [u32],
+    table: &mut [u16],
+    owners: &mut [u32],
+    history: &mut [u16],
+    chunk: &[u8],
+    from: usize,
+    out: &mut [u8],
+    at: usize,
+) -> Fed
+    requires { ⌜ (from ≤ length (now chunk)) × (at ≤ length (now out)) ⌝ }
+    ensures { λ r. ⌜ Rested
+        (deskOf before begun sum (lentOf (now (archive .entry)) (now (pool .entry)) (now (groups .entry)) (now (table .entry)) (now (owners .entry)) (now (history .entry))))
+        (now (chunk .entry)) from (now (out .entry)) at (r .runner) (lentOf (now (archive .exit)) (now (pool .exit)) (now (groups .exit)) (now (table .exit)) (now (owners .exit)) (now (history .exit)))
+        (now (out .exit)) (r .used) (r .filled) ⌝ }
+{
+    let room = out.len();
+    let lines = answer_lines(
+        before,
+        begun,
+        sum,
+        archive,
+        pool,
+        groups,
+        table,
+        owners,
+        history,
+        chunk,
+        from,
+        out,
+        at,
+    );
+    let used = lines.used;
+    let filled = lines.filled;
+    let state = lines.state;
+    let tally = lines.tally;
+    let none = text::no_line();
+    if room - filled < LONGEST {
+        return Fed {
+            runner: Runner {
+                state,
+                started: lines.started,
+                tally,
+                reader: none,
+            },
+            used,
+            filled,
+        };
+    }
+    let reader = text::keep(none, &chunk[used..]);
+    Fed {
+        runner: Runner {
+            state,
+            started: lines.started,
+            tally,
+            reader,
+        },
+        used: chunk.len(),
+        filled,
+    }
+}
+
+// Takes bytes of input while the output has room for the longest answer, and puts there what the runner says to them.
 pub fn feed(
     runner: Runner,
     archive: &mut [u8],
@@ -183,101 +263,89 @@ pub fn feed(
     owners: &mut [u32],
     history: &mut [u16],
     chunk: &[u8],
-) -> Fed
-    ensures { λ r. ⌜ Continues runner
-        (lentOf (now (archive .entry)) (now (pool .entry)) (now (groups .entry)) (now (table .entry)) (now (owners .entry)) (now (history .entry)))
-        (now (chunk .entry))
-        (r .runner)
-        (lentOf (now (archive .exit)) (now (pool .exit)) (now (groups .exit)) (now (table .exit)) (now (owners .exit)) (now (history .exit)))
-        (take (r .line .count) (r .line .bytes)) (r .used) ⌝ }
-    ensures { λ r. ⌜ (r .line .count ≤ 64) × (0 < length (now (chunk .entry)) → 0 < r .used) ⌝ }
-{
-    let before = runner.reader;
-    let taken = text::take_line(before, chunk);
-    let used = taken.count;
-    let state = runner.state;
-    let tally = runner.tally;
-    let reader = taken.reader;
-    let next = Runner {
-        state,
-        started: runner.started,
-        tally,
-        reader,
-    };
-    if chunk.len() <= used {
-        let line = replies::no_text();
-        return Fed {
-            runner: next,
-            line,
-            used,
-        };
-    }
-    let answered = answer(next, archive, pool, groups, table, owners, history);
-    let after = answered.runner;
-    let line = answered.line;
-    Fed {
-        runner: after,
-        line,
-        used: used + 1,
-    }
-}
-
-// Takes bytes of input while the output has room for a line, and puts there what the runner says to them.
-pub fn feed_all(
-    runner: Runner,
-    archive: &mut [u8],
-    pool: &mut [u8],
-    groups: &mut [u32],
-    table: &mut [u16],
-    owners: &mut [u32],
-    history: &mut [u16],
-    chunk: &[u8],
     out: &mut [u8],
-) -> FedAll
-    ensures { λ r. ⌜ Continues runner
-        (lentOf (now (archive .entry)) (now (pool .entry)) (now (groups .entry)) (now (table .entry)) (now (owners .entry)) (now (history .entry)))
-        (now (chunk .entry))
-        (r .runner)
-        (lentOf (now (archive .exit)) (now (pool .exit)) (now (groups .exit)) (now (table .exit)) (now (owners .exit)) (now (history .exit)))
-        (take (r .filled) (now (out .exit))) (r .used) ⌝ }
-    ensures { λ r. ⌜ (r .filled ≤ length (now (out .exit))) × (64 ≤ length (now (out .entry)) → 0 < length (now (chunk .entry)) → 0 < r .used) ⌝ }
+) -> Fed
+    ensures { λ r. ⌜ Taken runner (lentOf (now (archive .entry)) (now (pool .entry)) (now (groups .entry)) (now (table .entry)) (now (owners .entry)) (now (history .entry))) (now (chunk .entry)) (now (out .entry)) (r .runner) (lentOf (now (archive .exit)) (now (pool .exit)) (now (groups .exit)) (now (table .exit)) (now (owners .exit)) (now (history .exit))) (now (out .exit)) (r .used) (r .filled) ⌝ }
 {
     let count = chunk.len();
-    let room = out.len();
-    let mut current = runner;
-    let mut used = 0;
-    let mut filled = 0;
-    while used < count {
-        if room - filled < 64 {
-            return FedAll {
-                runner: current,
-                used,
-                filled,
-            };
-        }
-        let fed = feed(
-            current,
+    if out.len() < LONGEST {
+        return Fed {
+            runner,
+            used: 0,
+            filled: 0,
+        };
+    }
+    let reader = runner.reader;
+    let state = runner.state;
+    let tally = runner.tally;
+    if reader.count == 0 {
+        return feed_rest(
+            state,
+            runner.started,
+            tally,
             archive,
             pool,
             groups,
             table,
             owners,
             history,
-            &chunk[used..],
+            chunk,
+            0,
+            out,
+            0,
         );
-        current = fed.runner;
-        used = used + fed.used;
-        let line = fed.line;
-        filled = replies::put_line(out, filled, line);
     }
-    FedAll {
-        runner: current,
-        used,
-        filled,
+    let end = text::part_end(chunk, 0, 10);
+    let whole = text::keep(reader, &chunk[..end]);
+    if count <= end {
+        return Fed {
+            runner: Runner {
+                state,
+                started: runner.started,
+                tally,
+                reader: whole,
+            },
+            used: end,
+            filled: 0,
+        };
     }
+    let line = text::ended(whole);
+    let kept = line.kept;
+    let first = answer_lines(
+        state,
+        runner.started,
+        tally,
+        archive,
+        pool,
+        groups,
+        table,
+        owners,
+        history,
+        &kept[..line.count],
+        0,
+        out,
+        0,
+    );
+    let after = first.state;
+    let sum = first.tally;
+    feed_rest(
+        after,
+        first.started,
+        sum,
+        archive,
+        pool,
+        groups,
+        table,
+        owners,
+        history,
+        chunk,
+        end + 1,
+        out,
+        first.filled,
+    )
 }
 
-// The end of input: puts the answer to a last line without its line feed, and the tally. With an output of less than 128 bytes nothing is
+// The end of input: puts the answer to a last line without its line feed, and the tally. With less room than the longest of both nothing is
 // done.
 pub fn finish(
     runner: Runner,
@@ -289,22 +357,36 @@ pub fn finish(
     history: &mut [u16],
     out: &mut [u8],
 ) -> usize
-    ensures { λ r. ⌜ (r ≤ length (now (out .exit)))
-        × (128 ≤ length (now (out .entry)) → Ends runner
-        (lentOf (now (archive .entry)) (now (pool .entry)) (now (groups .entry)) (now (table .entry)) (now (owners .entry)) (now (history .entry)))
-        (take r (now (out .exit))))
-        × (length (now (out .entry)) < 128 → (r ≡ 0) × (now (out .exit) ≡ now (out .entry))
-        × (lentOf (now (archive .exit)) (now (pool .exit)) (now (groups .exit)) (now (table .exit)) (now (owners .exit)) (now (history .exit))
-        ≡ lentOf (now (archive .entry)) (now (pool .entry)) (now (groups .entry)) (now (table .entry)) (now (owners .entry)) (now (history .entry)))) ⌝ }
+    ensures { λ r. ⌜ Finishes runner (lentOf (now (archive .entry)) (now (pool .entry)) (now (groups .entry)) (now (table .entry)) (now (owners .entry)) (now (history .entry))) (now (out .entry)) (lentOf (now (archive .exit)) (now (pool .exit)) (now (groups .exit)) (now (table .exit)) (now (owners .exit)) (now (history .exit))) (now (out .exit)) r ⌝ }
 {
-    if out.len() < 128 {
+    let room = out.len();
+    if room < LONGEST + LONGEST_END {
         return 0;
     }
-    let answered = answer(runner, archive, pool, groups, table, owners, history);
-    let after = answered.runner;
-    let line = answered.line;
-    let behind = replies::put_line(out, 0, line);
-    let tally = after.tally;
-    let last = replies::end_line(tally.oks, tally.noes);
-    replies::put_line(out, behind, last)
+    let reader = runner.reader;
+    let line = text::ended(reader);
+    let kept = line.kept;
+    let state = runner.state;
+    let before = runner.tally;
+    let last = answer_lines(
+        state,
+        runner.started,
+        before,
+        archive,
+        pool,
+        groups,
+        table,
+        owners,
+        history,
+        &kept[..line.count],
+        0,
+        out,
+        0,
+    );
+    let tally = last.tally;
+    let filled = last.filled;
+    if room - filled < LONGEST_END {
+        return filled;
+    }
+    replies::put_end(out, filled, tally.oks, tally.noes)
 }

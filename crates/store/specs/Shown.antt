@@ -9,6 +9,7 @@ use Rattle.rules.specs.Promise.{Promise, Run}
 use Rattle.versions.specs.declared.Origin as code
 use Rattle.versions.specs.Newest.{originOf}
 use Rattle.storage.specs.declared.State.{State}
+use Rattle.storage.specs.Steps.{freshState}
 use Rattle.storage.specs.Storage.{Memory, Storage, memoryOf, lengthsIn, store}
 
 -- The lent memory, and the lengths of its pieces in elements.
@@ -35,6 +36,10 @@ Kept = Storage
 
 abbrev pub StoreState : Type 0
 StoreState = State
+
+-- "the blank state, with L = 0".
+abbrev pub blankState : StoreState
+blankState = freshState 0 0 0
 
 abbrev pub kept : StoreState → Lent → Kept
 kept s m = record { state = s; memory = m }

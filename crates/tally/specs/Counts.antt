@@ -1,5 +1,5 @@
 -- The tally of a session. Quotations are of document 01.
-use Prim.Native.Nat.{ℕ, _+_, _≤_}
+use Prim.Native.Nat.{ℕ, _+_}
 use mathlib.Core.Bool.{cond}
 use lib.Dec.{ltb, eqb}
 use Rattle.tally.specs.declared.Tally.{Tally}
@@ -18,11 +18,3 @@ tallyOf oks noes = record { oks = oks; noes = noes }
 -- "a tally of ok and no answers": the tally with one answer more, of refusal n or 0.
 unfoldable pub tallyAfter : Tally → ℕ → Tally
 tallyAfter t n = cond (eqb n 0) (tallyOf (oneMore (t .oks)) (t .noes)) (tallyOf (t .oks) (oneMore (t .noes)))
-
--- Both counts with something added, and that no sum wraps.
-abbrev pub plus : Tally → (a b : ℕ) → Tally
-plus t a b = tallyOf (t .oks + a) (t .noes + b)
-
-pub record Room (t : Tally) (a b : ℕ) : Type 0 where
-  pub oks : t .oks + a ≤ most
-  pub noes : t .noes + b ≤ most

@@ -1,12 +1,12 @@
 // Text in bytes: numbers read and written, and lines of any length read byte by byte.
 ghost use mathlib.Core.Path.{_≡_};
-ghost use mathlib.Core.List.{[], _∷_};
+ghost use mathlib.Core.List.{[]};
 ghost use mathlib.Core.Bool.{true};
 ghost use Prim.Native.Nat.{_+_, _-_, _≤_, _<_};
-ghost use lib.ListN.{length, take, drop};
+ghost use lib.ListN.{length, drop};
 ghost use Rattle.text.specs.Parts.{upTo};
 ghost use Rattle.text.specs.Output.{Puts};
-ghost use Rattle.text.specs.Lines.{Holds, Extends};
+ghost use Rattle.text.specs.Lines.{Holds, Extends, Ended};
 ghost use Rattle.text.specs.Numbers.{isDigit, numberIn, decimal};
 
 // What a field says as a number.
@@ -105,15 +105,15 @@ pub fn put_decimal(out: &mut [u8], at: usize, n: u64) -> usize
     put(out, at, digits)
 }
 
-// Where the field that starts at a byte of a line ends: at the next tab, or at the line's end.
-pub fn field_end(line: &[u8], from: usize) -> usize
-    requires { ⌜ from ≤ length (now line) ⌝ }
-    ensures { λ r. ⌜ r ≡ from + upTo 9 (drop from (now (line .entry))) ⌝ }
+// Where the part of a text that starts at a byte ends: at the next separator, or at the text's end.
+pub fn part_end(bytes: &[u8], from: usize, separator: u8) -> usize
+    requires { ⌜ from ≤ length (now bytes) ⌝ }
+    ensures { λ r. ⌜ r ≡ from + upTo separator (drop from (now (bytes .entry))) ⌝ }
 {
-    let count = line.len();
+    let count = bytes.len();
     let mut i = from;
     while i < count {
-        if line[i] == 9 {
+        if bytes[i] == separator {
             return i;
         }
         i = i + 1;
@@ -121,62 +121,52 @@ pub fn field_end(line: &[u8], from: usize) -> usize
     i
 }
 
-// The line that is being read: its first bytes up to the limit of 80, and how many it has, counted to one past the limit.
+// The first bytes of a line that is not whole yet: as many as are looked at, which is one more than a line may have. There is room for a line
+// feed behind them.
 pub struct Reader {
-    pub kept: [u8; 80],
-    pub count: u32,
+    pub kept: [u8; 82],
+    pub count: usize,
 }
 
 // No byte of a line yet.
 pub fn no_line() -> Reader
     ensures { λ r. ⌜ Holds r [] ⌝ }
 {
-    let kept = [0u8; 80];
+    let kept = [0u8; 82];
     Reader { kept, count: 0 }
 }
 
-// One byte more of the line.
-pub fn with_byte(reader: Reader, b: u8) -> Reader
-    ensures { λ r. ⌜ Extends reader (b ∷ []) r ⌝ }
+// The line with more bytes.
+pub fn keep(reader: Reader, bytes: &[u8]) -> Reader
+    ensures { λ r. ⌜ Extends reader (now (bytes .entry)) r ⌝ }
 {
-    let count = reader.count;
+    let more = bytes.len();
     let mut kept = reader.kept;
-    if 80 <= count {
-        return Reader { kept, count: 81 };
+    let mut count = reader.count;
+    let mut i = 0;
+    while i < more {
+        if 81 <= count {
+            return Reader { kept, count };
+        }
+        kept[count] = bytes[i];
+        count = count + 1;
+        i = i + 1;
     }
-    kept[count as usize] = b;
+    Reader { kept, count }
+}
+
+// The line with its line feed.
+pub fn ended(reader: Reader) -> Reader
+    ensures { λ r. ⌜ Ended reader r ⌝ }
+{
+    let mut kept = reader.kept;
+    let count = reader.count;
+    if 81 < count {
+        return Reader { kept, count: 0 };
+    }
+    kept[count] = 10;
     Reader {
         kept,
         count: count + 1,
-    }
-}
-
-// The line with more bytes, and how many those are.
-pub struct Taken {
-    pub reader: Reader,
-    pub count: usize,
-}
-
-// The bytes of a chunk before its first line feed, or all of them, added to the line.
-pub fn take_line(reader: Reader, chunk: &[u8]) -> Taken
-    ensures { λ r. ⌜ (r .count ≡ upTo 10 (now (chunk .entry))) × Extends reader (take (r .count) (now (chunk .entry))) (r .reader) ⌝ }
-{
-    let count = chunk.len();
-    let mut line = reader;
-    let mut i = 0;
-    while i < count {
-        let b = chunk[i];
-        if b == 10 {
-            return Taken {
-                reader: line,
-                count: i,
-            };
-        }
-        line = with_byte(line, b);
-        i = i + 1;
-    }
-    Taken {
-        reader: line,
-        count: i,
     }
 }

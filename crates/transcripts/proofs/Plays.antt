@@ -18,14 +18,6 @@ pub record Playing (m₀ m : Lent) (o₀ o input : Text) (from filled : ℕ) : T
 pub used-within : (from end count chunk used : ℕ) → from ≤ end → end ≤ count → end - from ≡ chunk → used ≤ chunk → from + used ≤ count
 used-within from end count chunk used more last is within = omega arith
 
--- What was put into the rest of the output, which is as long as it was.
-module _ (filled room rest after told : ℕ) (fits : filled ≤ room) (is : rest ≡ room - filled) (same : after ≡ rest) (put : told ≤ after) where
-  pub put-within : filled + told ≤ room
-  put-within = omega arith
-
-  pub put-back : (whole : ℕ) → whole ≡ room → filled + told ≤ whole
-  put-back whole e = omega arith
-
 -- Six lengths, each as it was.
 pub same-pieces : {a p g t w h a₀ p₀ g₀ t₀ w₀ h₀ : ℕ} → a ≡ a₀ → p ≡ p₀ → g ≡ g₀ → t ≡ t₀ → w ≡ w₀ → h ≡ h₀
     → _≡_ {A = Pieces} (record { archive = a; pool = p; groups = g; table = t; owners = w; history = h })

@@ -1,7 +1,9 @@
-// Feeds test sessions to the library in chunks of 1, 7 and 4,096 bytes and prints their transcripts.
+// Feeds test sessions to the library in chunks of 1, 7 and 4,096 bytes, with output buffers of several sizes, and prints their transcripts.
 mod sessions;
 
 use libc::STDOUT_FILENO;
+use session::Fed;
+use session::Runner;
 ghost use Prim.Native.Nat.{_+_, _≤_, _<_};
 ghost use lib.ListN.{length};
 
@@ -84,7 +86,68 @@ fn behind(from: usize, used: usize, count: usize) -> usize
     from + used
 }
 
-// Plays a session from the start in chunks of a size, and returns how many bytes of output it put. It ends where the output has no more room.
+// Feeds a chunk, with an output buffer of a size behind what is filled already.
+fn feed_part(
+    runner: Runner,
+    archive: &mut [u8],
+    pool: &mut [u8],
+    groups: &mut [u32],
+    table: &mut [u16],
+    owners: &mut [u32],
+    history: &mut [u16],
+    chunk: &[u8],
+    out: &mut [u8],
+    filled: usize,
+    room: usize,
+) -> Fed
+    requires { ⌜ filled ≤ length (now out) ⌝ }
+    ensures { λ r. ⌜ (r .used ≤ length (now (chunk .entry))) × (filled + r .filled ≤ length (now (out .entry))) ⌝ }
+{
+    let end = chunk_end(filled, room, out.len());
+    session::feed(
+        runner,
+        archive,
+        pool,
+        groups,
+        table,
+        owners,
+        history,
+        chunk,
+        &mut out[filled..end],
+    )
+}
+
+// Ends a session, with just the output buffer that this wants behind what is filled already, and returns how many bytes are filled then.
+fn finish_part(
+    runner: Runner,
+    archive: &mut [u8],
+    pool: &mut [u8],
+    groups: &mut [u32],
+    table: &mut [u16],
+    owners: &mut [u32],
+    history: &mut [u16],
+    out: &mut [u8],
+    filled: usize,
+) -> usize
+    requires { ⌜ filled ≤ length (now out) ⌝ }
+    ensures { λ r. ⌜ r ≤ length (now (out .exit)) ⌝ }
+{
+    let end = chunk_end(filled, 128, out.len());
+    filled
+        + session::finish(
+            runner,
+            archive,
+            pool,
+            groups,
+            table,
+            owners,
+            history,
+            &mut out[filled..end],
+        )
+}
+
+// Plays a session from the start in chunks of a size, with output buffers of a size, and returns how many bytes of output it put. It ends where
+// the output has no more room.
 fn play(
     archive: &mut [u8],
     pool: &mut [u8],
@@ -94,6 +157,7 @@ fn play(
     history: &mut [u16],
     input: &[u8],
     size: usize,
+    room: usize,
     out: &mut [u8],
 ) -> usize
     ensures { λ r. ⌜ r ≤ length (now (out .exit)) ⌝ }
@@ -104,7 +168,7 @@ fn play(
     let mut filled = 0;
     while from < count {
         let end = chunk_end(from, size, count);
-        let told = session::feed_all(
+        let told = feed_part(
             runner,
             archive,
             pool,
@@ -113,43 +177,53 @@ fn play(
             owners,
             history,
             &input[from..end],
-            &mut out[filled..],
+            out,
+            filled,
+            room,
         );
         runner = told.runner;
         filled = filled + told.filled;
         from = behind(from, told.used, count);
     }
-    filled
-        + session::finish(
-            runner,
-            archive,
-            pool,
-            groups,
-            table,
-            owners,
-            history,
-            &mut out[filled..],
-        )
+    finish_part(
+        runner,
+        archive,
+        pool,
+        groups,
+        table,
+        owners,
+        history,
+        out,
+        filled,
+    )
 }
 
-// The sizes of chunks, in the order of the plays.
+// The sizes of chunks and of output buffers, in the order of the plays: for each buffer all chunks.
 fn size_of(turn: u32) -> usize {
-    if turn == 0 {
+    if turn % 3 == 0 {
         return 4096;
     }
-    if turn == 1 {
+    if turn % 3 == 1 {
         return 7;
     }
     1
 }
 
+fn room_of(turn: u32) -> usize {
+    if turn < 3 {
+        return 65536;
+    }
+    if turn < 6 {
+        return 64;
+    }
+    65
+}
+
 // Says which play gave another transcript.
 fn tell(turn: u32) {
-    if turn == 1 {
-        io::write_all(STDOUT_FILENO, b"another transcript in chunks of 7 bytes\n");
-        return;
-    }
-    io::write_all(STDOUT_FILENO, b"another transcript in chunks of 1 byte\n");
+    io::write_all(STDOUT_FILENO, b"another transcript in play ");
+    io::write_all(STDOUT_FILENO, &[48 + (turn % 10) as u8]);
+    io::write_all(STDOUT_FILENO, b"\n");
 }
 
 // Prints the transcript of a session's first play and keeps it, and compares that of a later play with it. Returns how many bytes are kept.
@@ -167,8 +241,8 @@ fn report(turn: u32, transcript: &[u8], first: &mut [u8], kept: usize) -> usize
     kept
 }
 
-// Plays a session in chunks of 4,096, 7 and 1 bytes, each time on memory as the play before left it, and prints its transcript, and where
-// another size gave another one.
+// Plays a session in chunks of 4,096, 7 and 1 bytes with output buffers of 65,536 bytes, of the longest answer and of one byte more, each time on
+// memory as the play before left it, and prints its transcript, and which plays gave another one.
 fn show(
     archive: &mut [u8],
     pool: &mut [u8],
@@ -181,7 +255,7 @@ fn show(
     let mut first = io::large_buffer();
     let mut kept = 0;
     let mut turn = 0;
-    while turn < 3 {
+    while turn < 9 {
         let mut out = io::large_buffer();
         let count = play(
             archive,
@@ -192,6 +266,7 @@ fn show(
             history,
             input,
             size_of(turn),
+            room_of(turn),
             &mut out,
         );
         kept = report(turn, &out[..count], &mut first, kept);

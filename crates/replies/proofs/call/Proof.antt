@@ -1,13 +1,21 @@
 -- `replies::call` meets its contract: each record's call has the promise that the store's function ensures. Assumes nothing.
-use borrow.Author.Needs.{needs}
-use Rattle.replies.specs.Calls.{callOf}
 use Rattle.replies.specs.Lines.{answerOf}
-use Rattle.replies.proofs.Calls.{promised, promised-plain}
+use Rattle.replies.proofs.Calls.{called-reset, called-read, called-write, called-mark, called-back, called-advance, called-counts}
+use borrow.Author.Needs.{needs}
 use Rattle.replies.proofs.call.Statement.{statement}
 use Rattle.replies.proofs.call.Tie as tie
 
-enum-known-asked : tie.Need-enum-known-asked
-enum-known-asked c = search needs
+number-requires : tie.Need-number-requires
+number-requires c κs = search needs
+
+number-requires-2 : tie.Need-number-requires-2
+number-requires-2 c κs = search needs
+
+number-requires-3 : tie.Need-number-requires-3
+number-requires-3 c κs = search needs
+
+enum-told : tie.Need-enum-told
+enum-told c = search needs
 
 reset-requires : tie.Need-reset-requires
 reset-requires c κs = search needs
@@ -15,14 +23,14 @@ reset-requires c κs = search needs
 outcome-reply-requires : tie.Need-outcome-reply-requires
 outcome-reply-requires c κs = search needs
 
-enum-known-asked-2 : tie.Need-enum-known-asked-2
-enum-known-asked-2 c = search needs
+enum-told-2 : tie.Need-enum-told-2
+enum-told-2 c = search needs
 
 read-requires : tie.Need-read-requires
 read-requires c κs = search needs
 
-enum-known-asked-3 : tie.Need-enum-known-asked-3
-enum-known-asked-3 c = search needs
+enum-told-3 : tie.Need-enum-told-3
+enum-told-3 c = search needs
 
 write-requires : tie.Need-write-requires
 write-requires c κs = search needs
@@ -30,8 +38,8 @@ write-requires c κs = search needs
 outcome-reply-requires-2 : tie.Need-outcome-reply-requires-2
 outcome-reply-requires-2 c κs = search needs
 
-enum-told : tie.Need-enum-told
-enum-told c = search needs
+enum-told-4 : tie.Need-enum-told-4
+enum-told-4 c = search needs
 
 mark-requires : tie.Need-mark-requires
 mark-requires c κs = search needs
@@ -39,8 +47,8 @@ mark-requires c κs = search needs
 outcome-reply-requires-3 : tie.Need-outcome-reply-requires-3
 outcome-reply-requires-3 c κs = search needs
 
-enum-known-asked-4 : tie.Need-enum-known-asked-4
-enum-known-asked-4 c = search needs
+enum-told-5 : tie.Need-enum-told-5
+enum-told-5 c = search needs
 
 rollback-requires : tie.Need-rollback-requires
 rollback-requires c κs = search needs
@@ -48,8 +56,8 @@ rollback-requires c κs = search needs
 outcome-reply-requires-4 : tie.Need-outcome-reply-requires-4
 outcome-reply-requires-4 c κs = search needs
 
-enum-known-asked-5 : tie.Need-enum-known-asked-5
-enum-known-asked-5 c = search needs
+enum-told-6 : tie.Need-enum-told-6
+enum-told-6 c = search needs
 
 advance-requires : tie.Need-advance-requires
 advance-requires c κs = search needs
@@ -57,8 +65,8 @@ advance-requires c κs = search needs
 outcome-reply-requires-5 : tie.Need-outcome-reply-requires-5
 outcome-reply-requires-5 c κs = search needs
 
-enum-told-2 : tie.Need-enum-told-2
-enum-told-2 c = search needs
+enum-told-7 : tie.Need-enum-told-7
+enum-told-7 c = search needs
 
 counts-requires : tie.Need-counts-requires
 counts-requires c κs = search needs
@@ -82,8 +90,8 @@ same-length-6 : tie.Need-same-length-6
 same-length-6 c = search needs
 
 returns : tie.Need-returns
-unfolding callOf answerOf
-returns c = promised-plain _ _ _ _ _ _ _ _ (c .before .before .before .before .before .before .before .before .before .before .before .before .before .before .before .asked .given .1) (c .outcome-reply .ensures .0) (c .outcome-reply .ensures .1) (c .before .before .before .before .before .before .before .reset .ensures .0)
+unfolding answerOf
+returns c = called-reset _ _ _ _ _ _ _ _ _ _ _ (c .before .before .before .before .before .before .before .before .before .before .before .before .before .before .enum-told .given .1) (c .before .before .before .before .before .before .before .before .before .before .before .before .before .before .before .before .before .before .number .ensures) (c .before .before .before .before .before .before .before .before .before .before .before .before .before .before .before .before .before .number2 .ensures) (c .before .before .before .before .before .before .before .before .before .before .before .before .before .before .before .before .number3 .ensures) (c .before .before .before .before .before .before .before .reset .ensures .0) (c .outcome-reply .ensures .0) (c .outcome-reply .ensures .1)
 
 same-length-7 : tie.Need-same-length-7
 same-length-7 c = search needs
@@ -104,8 +112,8 @@ same-length-12 : tie.Need-same-length-12
 same-length-12 c = search needs
 
 returns-2 : tie.Need-returns-2
-unfolding callOf answerOf
-returns-2 c = promised _ _ _ _ _ (c .before .before .before .before .before .before .before .before .before .asked2 .given .1) (c .before .read .ensures .0)
+unfolding answerOf
+returns-2 c = called-read _ _ _ _ _ _ _ (c .before .before .before .before .before .before .before .before .enum-told2 .given .1) (c .before .before .before .before .before .before .before .before .before .before .before .before .number .ensures) (c .before .before .before .before .before .before .before .before .before .before .before .number2 .ensures) (c .before .read .ensures .0)
 
 same-length-13 : tie.Need-same-length-13
 same-length-13 c = search needs
@@ -126,8 +134,8 @@ same-length-18 : tie.Need-same-length-18
 same-length-18 c = search needs
 
 returns-3 : tie.Need-returns-3
-unfolding callOf answerOf
-returns-3 c = promised-plain _ _ _ _ _ _ _ _ (c .before .before .before .before .before .before .before .before .before .before .before .before .before .before .before .before .before .asked3 .given .1) (c .outcome-reply2 .ensures .0) (c .outcome-reply2 .ensures .1) (c .before .before .before .before .before .before .before .before .before .write .ensures .0)
+unfolding answerOf
+returns-3 c = called-write _ _ _ _ _ _ _ _ _ _ _ (c .before .before .before .before .before .before .before .before .before .before .before .before .before .before .before .before .enum-told3 .given .1) (c .before .before .before .before .before .before .before .before .before .before .before .before .before .before .before .before .before .before .before .before .number .ensures) (c .before .before .before .before .before .before .before .before .before .before .before .before .before .before .before .before .before .before .before .number2 .ensures) (c .before .before .before .before .before .before .before .before .before .before .before .before .before .before .before .before .before .before .number3 .ensures) (c .before .before .before .before .before .before .before .before .before .write .ensures .0) (c .outcome-reply2 .ensures .0) (c .outcome-reply2 .ensures .1)
 
 same-length-19 : tie.Need-same-length-19
 same-length-19 c = search needs
@@ -148,8 +156,8 @@ same-length-24 : tie.Need-same-length-24
 same-length-24 c = search needs
 
 returns-4 : tie.Need-returns-4
-unfolding callOf answerOf
-returns-4 c = promised-plain _ _ _ _ _ _ _ _ (c .before .before .before .before .before .before .before .before .enum-told .given .1) (c .outcome-reply3 .ensures .0) (c .outcome-reply3 .ensures .1) (c .before .mark .ensures .0)
+unfolding answerOf
+returns-4 c = called-mark _ _ _ _ _ _ _ _ (c .before .before .before .before .before .before .before .before .enum-told4 .given .1) (c .before .mark .ensures .0) (c .outcome-reply3 .ensures .0) (c .outcome-reply3 .ensures .1)
 
 same-length-25 : tie.Need-same-length-25
 same-length-25 c = search needs
@@ -170,8 +178,8 @@ same-length-30 : tie.Need-same-length-30
 same-length-30 c = search needs
 
 returns-5 : tie.Need-returns-5
-unfolding callOf answerOf
-returns-5 c = promised-plain _ _ _ _ _ _ _ _ (c .before .before .before .before .before .before .before .before .before .before .before .before .before .asked4 .given .1) (c .outcome-reply4 .ensures .0) (c .outcome-reply4 .ensures .1) (c .before .before .before .before .before .rollback .ensures .0)
+unfolding answerOf
+returns-5 c = called-back _ _ _ _ _ _ _ _ _ (c .before .before .before .before .before .before .before .before .before .before .before .before .enum-told5 .given .1) (c .before .before .before .before .before .before .before .before .before .before .before .before .before .before .before .before .number .ensures) (c .before .before .before .before .before .rollback .ensures .0) (c .outcome-reply4 .ensures .0) (c .outcome-reply4 .ensures .1)
 
 same-length-31 : tie.Need-same-length-31
 same-length-31 c = search needs
@@ -192,8 +200,8 @@ same-length-36 : tie.Need-same-length-36
 same-length-36 c = search needs
 
 returns-6 : tie.Need-returns-6
-unfolding callOf answerOf
-returns-6 c = promised-plain _ _ _ _ _ _ _ _ (c .before .before .before .before .before .before .before .before .before .before .before .before .before .before .before .asked5 .given .1) (c .outcome-reply5 .ensures .0) (c .outcome-reply5 .ensures .1) (c .before .before .before .before .before .before .before .advance .ensures .0)
+unfolding answerOf
+returns-6 c = called-advance _ _ _ _ _ _ _ _ _ (c .before .before .before .before .before .before .before .before .before .before .before .before .before .before .enum-told6 .given .1) (c .before .before .before .before .before .before .before .before .before .before .before .before .before .before .before .before .before .before .number .ensures) (c .before .before .before .before .before .before .before .advance .ensures .0) (c .outcome-reply5 .ensures .0) (c .outcome-reply5 .ensures .1)
 
 same-length-37 : tie.Need-same-length-37
 same-length-37 c = search needs
@@ -214,31 +222,34 @@ same-length-42 : tie.Need-same-length-42
 same-length-42 c = search needs
 
 returns-7 : tie.Need-returns-7
-unfolding callOf answerOf
-returns-7 c = promised _ _ _ _ _ (c .before .before .before .before .before .before .before .enum-told2 .given .1) (c .counts .ensures)
+unfolding answerOf
+returns-7 c = called-counts _ _ _ _ _ (c .before .before .before .before .before .before .before .enum-told7 .given .1) (c .counts .ensures)
 
 pub call-spec : {M : Type 1} → statement M
 call-spec =
     tie.close
     (tie.spec
-    enum-known-asked
+    number-requires
+    number-requires-2
+    number-requires-3
+    enum-told
     reset-requires
     outcome-reply-requires
-    enum-known-asked-2
+    enum-told-2
     read-requires
-    enum-known-asked-3
+    enum-told-3
     write-requires
     outcome-reply-requires-2
-    enum-told
+    enum-told-4
     mark-requires
     outcome-reply-requires-3
-    enum-known-asked-4
+    enum-told-5
     rollback-requires
     outcome-reply-requires-4
-    enum-known-asked-5
+    enum-told-6
     advance-requires
     outcome-reply-requires-5
-    enum-told-2
+    enum-told-7
     counts-requires
     same-length
     same-length-2

@@ -1,99 +1,98 @@
--- `runner::answer_chunk` is safe and ends: each turn takes bytes of the chunk. Assumes nothing.
+-- `runner::answer_chunk` meets its contract. Assumes nothing.
 use borrow.Author.Needs.{needs}
 use native.Mathlib.Omega.{arith}
-use mathlib.Core.Path.{_≡_, refl, _∙_, ap}
-use Prim.Native.Nat.{_-_, _≤_}
+use mathlib.Core.Path.{refl, _∙_, ap}
+use mathlib.Core.Bool.{false≢true}
+use Prim.Native.Nat.{_-_}
 use lib.ListN.{length}
-use Rattle.runner.proofs.Room.{used-within, used-less}
 use Rattle.rules.specs.Settings.{Pieces}
-use Rattle.store.specs.Shown.{lentOf, lengthsOf}
+use Rattle.store.specs.Shown.{lentOf}
+use Rattle.runner.proofs.Going.{Going, going-start, going-within, going-less, going-next, going-end}
 use Rattle.runner.proofs.answer_chunk.Statement.{statement}
 use Rattle.runner.proofs.answer_chunk.Tie as tie
 
 abbrev Inv-loop : tie.InvT-loop
 Inv-loop archive₀ pool₀ groups₀ table₀ owners₀ history₀ chunk out₀ count current₀ from₀ archive pool groups table owners history out current from =
-    (lengthsOf (lentOf archive pool groups table owners history) ≡ lengthsOf (lentOf archive₀ pool₀ groups₀ table₀ owners₀ history₀))
-    × (length out ≡ length out₀)
-    × (from ≤ length chunk)
+    Going current₀ (lentOf archive₀ pool₀ groups₀ table₀ owners₀ history₀) chunk out₀ current (lentOf archive pool groups table owners history) out from
 
 abbrev μ-loop : tie.MeasureT-loop
 μ-loop archive₀ pool₀ groups₀ table₀ owners₀ history₀ chunk out₀ count current₀ from₀ archive pool groups table owners history out current from =
-    count - from
+    length chunk - from
 
 loop-holds : tie.Need-loop-holds Inv-loop μ-loop
-loop-holds c = (refl, refl, omega arith)
+loop-holds c = going-start _ _ _ _
 
-sub-feed-all : tie.Need-sub-feed-all Inv-loop μ-loop
-sub-feed-all c = omega (arith, c .before .before .before .before .before .before .loop-test .taken)
+sub-feed : tie.Need-sub-feed Inv-loop μ-loop
+sub-feed c = omega (arith, (c .before .before .before .before .before .before .loop-test .taken))
 
-part-feed-all-start : tie.Need-part-feed-all-start Inv-loop μ-loop
-part-feed-all-start c = omega (arith, c .before .before .before .before .before .before .loop-test .taken)
+part-feed-start : tie.Need-part-feed-start Inv-loop μ-loop
+part-feed-start c = omega (arith, (c .before .before .before .before .before .before .loop-test .taken))
 
-part-feed-all-end : tie.Need-part-feed-all-end Inv-loop μ-loop
-part-feed-all-end c = search needs
+part-feed-end : tie.Need-part-feed-end Inv-loop μ-loop
+part-feed-end c = search needs
 
-feed-all-requires : tie.Need-feed-all-requires Inv-loop μ-loop
-feed-all-requires c κs = search needs
+feed-requires : tie.Need-feed-requires Inv-loop μ-loop
+feed-requires c κs = search needs
 
 add-from : tie.Need-add-from Inv-loop μ-loop
-add-from c = omega (arith, used-within _ _ _ _ (c .before .before .before .before .before .before .before .before .before .before .before .before .before .before .before .before .before .before .before .before .before .before .before .before .before .loop-test .taken) (c .before .before .before .before .before .before .before .before .before .before .before .before .before .before .before .before .before .before .feed-all-arg7 .given .1) (c .before .before .before .before .before .before .before .before .before .before .before .before .before .before .before .before .feed-all .ensures .0 .within), c .before .before .before .before .before .before .before .before .before .before .before .before .before .before .before .before .before .before .before .before .before .before .before .before .before .before .before .before .before .before .before .before .before .before .before .good .1 .1 .1 .1 .1 .1 .1 .0 .0)
+add-from c = omega (arith, going-within (c .before .before .before .before .before .before .before .before .before .before .before .before .before .before .before .before .before .before .before .before .before .before .before .before .before .before .loop .inv) _ _ _ _ _ (c .before .before .before .before .before .before .before .before .before .before .before .before .before .before .before .before .feed .ensures), (c .before .before .before .before .before .before .before .before .before .before .before .before .before .before .before .before .before .before .before .before .before .before .before .before .before .before .before .before .before .before .before .before .before .before .before .good .1 .1 .1 .1 .1 .1 .1 .0 .0))
 
 write-out-requires : tie.Need-write-out-requires Inv-loop μ-loop
-write-out-requires c κs = c .before .before .before .before .before .before .before .before .before .before .before .before .before .before .before .before .before .feed-all .ensures .1 .0
+write-out-requires c κs = c .before .before .before .before .before .before .before .before .before .before .before .before .before .before .before .before .before .feed .ensures .few
 
 same-length : tie.Need-same-length Inv-loop μ-loop
-same-length c = ap (λ (p : Pieces). p .archive) (c .before .before .before .before .before .before .before .before .before .before .before .before .before .before .before .before .before .before .before .feed-all .ensures .0 .lengths ∙ c .before .before .before .before .before .before .before .before .before .before .before .before .before .before .before .before .before .before .before .before .before .before .before .before .before .before .before .before .before .loop .inv .0)
+same-length c = ap (λ (p : Pieces). p .archive) (c .before .before .before .before .before .before .before .before .before .before .before .before .before .before .before .before .before .before .before .feed .ensures .lengths ∙ c .before .before .before .before .before .before .before .before .before .before .before .before .before .before .before .before .before .before .before .before .before .before .before .before .before .before .before .before .before .loop .inv .lengths)
 
 same-length-2 : tie.Need-same-length-2 Inv-loop μ-loop
-same-length-2 c = ap (λ (p : Pieces). p .pool) (c .before .before .before .before .before .before .before .before .before .before .before .before .before .before .before .before .before .before .before .feed-all .ensures .0 .lengths ∙ c .before .before .before .before .before .before .before .before .before .before .before .before .before .before .before .before .before .before .before .before .before .before .before .before .before .before .before .before .before .loop .inv .0)
+same-length-2 c = ap (λ (p : Pieces). p .pool) (c .before .before .before .before .before .before .before .before .before .before .before .before .before .before .before .before .before .before .before .feed .ensures .lengths ∙ c .before .before .before .before .before .before .before .before .before .before .before .before .before .before .before .before .before .before .before .before .before .before .before .before .before .before .before .before .before .loop .inv .lengths)
 
 same-length-3 : tie.Need-same-length-3 Inv-loop μ-loop
-same-length-3 c = ap (λ (p : Pieces). p .groups) (c .before .before .before .before .before .before .before .before .before .before .before .before .before .before .before .before .before .before .before .feed-all .ensures .0 .lengths ∙ c .before .before .before .before .before .before .before .before .before .before .before .before .before .before .before .before .before .before .before .before .before .before .before .before .before .before .before .before .before .loop .inv .0)
+same-length-3 c = ap (λ (p : Pieces). p .groups) (c .before .before .before .before .before .before .before .before .before .before .before .before .before .before .before .before .before .before .before .feed .ensures .lengths ∙ c .before .before .before .before .before .before .before .before .before .before .before .before .before .before .before .before .before .before .before .before .before .before .before .before .before .before .before .before .before .loop .inv .lengths)
 
 same-length-4 : tie.Need-same-length-4 Inv-loop μ-loop
-same-length-4 c = ap (λ (p : Pieces). p .table) (c .before .before .before .before .before .before .before .before .before .before .before .before .before .before .before .before .before .before .before .feed-all .ensures .0 .lengths ∙ c .before .before .before .before .before .before .before .before .before .before .before .before .before .before .before .before .before .before .before .before .before .before .before .before .before .before .before .before .before .loop .inv .0)
+same-length-4 c = ap (λ (p : Pieces). p .table) (c .before .before .before .before .before .before .before .before .before .before .before .before .before .before .before .before .before .before .before .feed .ensures .lengths ∙ c .before .before .before .before .before .before .before .before .before .before .before .before .before .before .before .before .before .before .before .before .before .before .before .before .before .before .before .before .before .loop .inv .lengths)
 
 same-length-5 : tie.Need-same-length-5 Inv-loop μ-loop
-same-length-5 c = ap (λ (p : Pieces). p .owners) (c .before .before .before .before .before .before .before .before .before .before .before .before .before .before .before .before .before .before .before .feed-all .ensures .0 .lengths ∙ c .before .before .before .before .before .before .before .before .before .before .before .before .before .before .before .before .before .before .before .before .before .before .before .before .before .before .before .before .before .loop .inv .0)
+same-length-5 c = ap (λ (p : Pieces). p .owners) (c .before .before .before .before .before .before .before .before .before .before .before .before .before .before .before .before .before .before .before .feed .ensures .lengths ∙ c .before .before .before .before .before .before .before .before .before .before .before .before .before .before .before .before .before .before .before .before .before .before .before .before .before .before .before .before .before .loop .inv .lengths)
 
 same-length-6 : tie.Need-same-length-6 Inv-loop μ-loop
-same-length-6 c = ap (λ (p : Pieces). p .history) (c .before .before .before .before .before .before .before .before .before .before .before .before .before .before .before .before .before .before .before .feed-all .ensures .0 .lengths ∙ c .before .before .before .before .before .before .before .before .before .before .before .before .before .before .before .before .before .before .before .before .before .before .before .before .before .before .before .before .before .loop .inv .0)
+same-length-6 c = ap (λ (p : Pieces). p .history) (c .before .before .before .before .before .before .before .before .before .before .before .before .before .before .before .before .before .before .before .feed .ensures .lengths ∙ c .before .before .before .before .before .before .before .before .before .before .before .before .before .before .before .before .before .before .before .before .before .before .before .before .before .before .before .before .before .loop .inv .lengths)
 
 same-length-7 : tie.Need-same-length-7 Inv-loop μ-loop
-same-length-7 c = c .before .before .before .before .before .before .out .given ∙ c .before .before .before .before .before .before .before .before .before .before .before .before .before .before .before .before .before .before .before .before .before .before .before .before .before .before .before .before .before .loop .inv .1
+same-length-7 c = c .before .before .before .before .before .before .before .before .before .before .before .before .before .before .before .before .before .before .before .feed .ensures .same-room ∙ c .before .before .before .before .before .before .before .before .before .before .before .before .before .before .before .before .before .before .before .before .before .before .before .before .before .before .before .before .before .loop .inv .same-room
 
 returns : tie.Need-returns Inv-loop μ-loop
-returns c = search needs
+returns c = record { lengths = c .before .before .before .before .before .before .before .before .before .before .before .before .before .before .before .before .before .before .before .feed .ensures .lengths ∙ c .before .before .before .before .before .before .before .before .before .before .before .before .before .before .before .before .before .before .before .before .before .before .before .before .before .before .before .before .before .loop .inv .lengths; more-is = refl; fed = λ e. absurd (false≢true e) }
 
 loop-less : tie.Need-loop-less Inv-loop μ-loop
-loop-less c = used-less _ _ _ _ (c .before .before .before .before .before .before .before .before .before .before .before .before .before .before .before .before .before .before .before .before .before .before .before .before .before .before .before .before .loop-test .taken) (c .before .before .before .before .before .before .before .before .before .before .before .before .before .before .before .before .before .before .before .before .before .feed-all-arg7 .given .1) (c .before .before .before .before .before .before .before .before .before .before .before .before .before .before .before .before .before .before .before .feed-all .ensures .0 .within) (c .before .before .before .before .before .before .before .before .before .before .before .before .before .before .before .before .before .before .before .feed-all .ensures .1 .1 (omega (arith, c .before .before .before .before .before .before .before .before .before .before .before .before .before .before .before .before .before .before .before .before .before .before .before .before .before .before .before .before .before .loop .inv .1, c .before .before .before .before .before .before .before .before .before .before .before .before .before .before .before .before .before .before .before .before .before .before .before .before .before .before .before .before .before .before .before .before .before .before .before .before .before .before .pre)))
+loop-less c = going-less (c .before .before .before .before .before .before .before .before .before .before .before .before .before .before .before .before .before .before .before .before .before .before .before .before .before .before .before .before .before .loop .inv) _ _ _ _ _ (c .before .before .before .before .before .before .before .before .before .before .before .before .before .before .before .before .before .before .before .feed .ensures) (omega (arith, (c .before .before .before .before .before .before .before .before .before .before .before .before .before .before .before .before .before .before .before .before .before .before .before .before .before .before .before .before .before .loop .inv .same-room), (c .before .before .before .before .before .before .before .before .before .before .before .before .before .before .before .before .before .before .before .before .before .before .before .before .before .before .before .before .before .before .before .before .before .before .before .before .before .before .pre))) (c .before .before .before .before .before .before .before .before .before .before .before .before .before .before .before .before .before .before .before .before .before .before .before .before .before .before .before .before .loop-test .taken)
 
 loop-again : tie.Need-loop-again Inv-loop μ-loop
-loop-again c = (c .before .before .before .before .before .before .before .before .before .before .before .before .before .before .before .before .before .before .before .feed-all .ensures .0 .lengths ∙ c .before .before .before .before .before .before .before .before .before .before .before .before .before .before .before .before .before .before .before .before .before .before .before .before .before .before .before .before .before .loop .inv .0, c .before .before .before .before .before .before .out .given ∙ c .before .before .before .before .before .before .before .before .before .before .before .before .before .before .before .before .before .before .before .before .before .before .before .before .before .before .before .before .before .loop .inv .1, used-within _ _ _ _ (c .before .before .before .before .before .before .before .before .before .before .before .before .before .before .before .before .before .before .before .before .before .before .before .before .before .before .before .before .loop-test .taken) (c .before .before .before .before .before .before .before .before .before .before .before .before .before .before .before .before .before .before .before .before .before .feed-all-arg7 .given .1) (c .before .before .before .before .before .before .before .before .before .before .before .before .before .before .before .before .before .before .before .feed-all .ensures .0 .within))
+loop-again c = going-next (c .before .before .before .before .before .before .before .before .before .before .before .before .before .before .before .before .before .before .before .before .before .before .before .before .before .before .before .before .before .loop .inv) _ _ _ _ _ (c .before .before .before .before .before .before .before .before .before .before .before .before .before .before .before .before .before .before .before .feed .ensures)
 
 same-length-8 : tie.Need-same-length-8 Inv-loop μ-loop
-same-length-8 c = ap (λ (p : Pieces). p .archive) (c .before .loop .inv .0)
+same-length-8 c = ap (λ (p : Pieces). p .archive) (c .before .loop .inv .lengths)
 
 same-length-9 : tie.Need-same-length-9 Inv-loop μ-loop
-same-length-9 c = ap (λ (p : Pieces). p .pool) (c .before .loop .inv .0)
+same-length-9 c = ap (λ (p : Pieces). p .pool) (c .before .loop .inv .lengths)
 
 same-length-10 : tie.Need-same-length-10 Inv-loop μ-loop
-same-length-10 c = ap (λ (p : Pieces). p .groups) (c .before .loop .inv .0)
+same-length-10 c = ap (λ (p : Pieces). p .groups) (c .before .loop .inv .lengths)
 
 same-length-11 : tie.Need-same-length-11 Inv-loop μ-loop
-same-length-11 c = ap (λ (p : Pieces). p .table) (c .before .loop .inv .0)
+same-length-11 c = ap (λ (p : Pieces). p .table) (c .before .loop .inv .lengths)
 
 same-length-12 : tie.Need-same-length-12 Inv-loop μ-loop
-same-length-12 c = ap (λ (p : Pieces). p .owners) (c .before .loop .inv .0)
+same-length-12 c = ap (λ (p : Pieces). p .owners) (c .before .loop .inv .lengths)
 
 same-length-13 : tie.Need-same-length-13 Inv-loop μ-loop
-same-length-13 c = ap (λ (p : Pieces). p .history) (c .before .loop .inv .0)
+same-length-13 c = ap (λ (p : Pieces). p .history) (c .before .loop .inv .lengths)
 
 same-length-14 : tie.Need-same-length-14 Inv-loop μ-loop
-same-length-14 c = c .before .loop .inv .1
+same-length-14 c = c .before .loop .inv .same-room
 
 returns-2 : tie.Need-returns-2 Inv-loop μ-loop
-returns-2 c = search needs
+returns-2 c = record { lengths = c .before .loop .inv .lengths; more-is = refl; fed = λ e. going-end (c .before .loop .inv) (c .loop-test .left) }
 
 pub answer-chunk-spec : {M : Type 1} → statement M
 answer-chunk-spec =
@@ -102,10 +101,10 @@ answer-chunk-spec =
     Inv-loop
     μ-loop
     loop-holds
-    sub-feed-all
-    part-feed-all-start
-    part-feed-all-end
-    feed-all-requires
+    sub-feed
+    part-feed-start
+    part-feed-end
+    feed-requires
     add-from
     write-out-requires
     same-length

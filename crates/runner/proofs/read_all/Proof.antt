@@ -1,14 +1,16 @@
--- `runner::read_all` is safe and ends: each turn leaves one fewer. Assumes nothing.
+-- `runner::read_all` meets its contract, and ends: each turn leaves one fewer. Assumes nothing.
 use borrow.Author.Needs.{needs}
 use native.Mathlib.Omega.{arith}
-use mathlib.Core.Path.{refl, _∙_}
-use Rattle.runner.proofs.Room.{Lengths}
+use mathlib.Core.Path.{_∙_, ap}
+use Rattle.rules.specs.Settings.{Pieces}
+use Rattle.store.specs.Shown.{lentOf}
+use Rattle.runner.proofs.Reading.{Underway, underway-start, underway-next, reads-all, reads-too-many}
 use Rattle.runner.proofs.read_all.Statement.{statement}
 use Rattle.runner.proofs.read_all.Tie as tie
 
 abbrev Inv-loop : tie.InvT-loop
 Inv-loop archive₀ pool₀ groups₀ table₀ owners₀ history₀ out₀ runner₀ turns₀ archive pool groups table owners history out runner turns =
-    Lengths archive₀ pool₀ groups₀ table₀ owners₀ history₀ out₀ archive pool groups table owners history out
+    Underway runner₀ (lentOf archive₀ pool₀ groups₀ table₀ owners₀ history₀) out₀ runner (lentOf archive pool groups table owners history) out
 
 abbrev μ-loop : tie.MeasureT-loop
 μ-loop archive₀ pool₀ groups₀ table₀ owners₀ history₀ out₀ runner₀ turns₀ archive pool groups table owners history out runner turns =
@@ -18,34 +20,34 @@ start-requires : tie.Need-start-requires Inv-loop μ-loop
 start-requires c κs = tt
 
 loop-holds : tie.Need-loop-holds Inv-loop μ-loop
-loop-holds c = record { archive = refl; pool = refl; groups = refl; table = refl; owners = refl; history = refl; out = refl }
+loop-holds c = underway-start _ _ _
 
 read-some-requires : tie.Need-read-some-requires Inv-loop μ-loop
-read-some-requires c κs = omega (arith, c .before .before .before .before .before .before .before .before .loop .inv .out, c .before .before .before .before .before .before .before .before .before .before .before .before .before .before .before .before .before .pre .0)
+read-some-requires c κs = omega (arith, c .before .before .before .before .before .before .before .before .loop .inv .same-room, c .before .before .before .before .before .before .before .before .before .before .before .before .before .before .before .before .before .pre .0)
 
 same-length : tie.Need-same-length Inv-loop μ-loop
-same-length c = c .before .before .before .before .before .before .before .before .before .before .before .before .before .before .before .before .archive .given ∙ c .before .before .before .before .before .before .before .before .before .before .before .before .before .before .before .before .before .before .before .before .before .before .before .before .before .before .loop .inv .archive
+same-length c = c .before .before .before .before .before .before .before .before .before .before .before .before .before .before .before .before .archive .given ∙ ap (λ (p : Pieces). p .archive) (c .before .before .before .before .before .before .before .before .before .before .before .before .before .before .before .before .before .before .before .before .before .before .before .before .before .before .loop .inv .lengths)
 
 same-length-2 : tie.Need-same-length-2 Inv-loop μ-loop
-same-length-2 c = c .before .before .before .before .before .before .before .before .before .before .before .before .before .before .pool .given ∙ c .before .before .before .before .before .before .before .before .before .before .before .before .before .before .before .before .before .before .before .before .before .before .before .before .before .before .loop .inv .pool
+same-length-2 c = c .before .before .before .before .before .before .before .before .before .before .before .before .before .before .pool .given ∙ ap (λ (p : Pieces). p .pool) (c .before .before .before .before .before .before .before .before .before .before .before .before .before .before .before .before .before .before .before .before .before .before .before .before .before .before .loop .inv .lengths)
 
 same-length-3 : tie.Need-same-length-3 Inv-loop μ-loop
-same-length-3 c = c .before .before .before .before .before .before .before .before .before .before .before .before .groups .given ∙ c .before .before .before .before .before .before .before .before .before .before .before .before .before .before .before .before .before .before .before .before .before .before .before .before .before .before .loop .inv .groups
+same-length-3 c = c .before .before .before .before .before .before .before .before .before .before .before .before .groups .given ∙ ap (λ (p : Pieces). p .groups) (c .before .before .before .before .before .before .before .before .before .before .before .before .before .before .before .before .before .before .before .before .before .before .before .before .before .before .loop .inv .lengths)
 
 same-length-4 : tie.Need-same-length-4 Inv-loop μ-loop
-same-length-4 c = c .before .before .before .before .before .before .before .before .before .before .table .given ∙ c .before .before .before .before .before .before .before .before .before .before .before .before .before .before .before .before .before .before .before .before .before .before .before .before .before .before .loop .inv .table
+same-length-4 c = c .before .before .before .before .before .before .before .before .before .before .table .given ∙ ap (λ (p : Pieces). p .table) (c .before .before .before .before .before .before .before .before .before .before .before .before .before .before .before .before .before .before .before .before .before .before .before .before .before .before .loop .inv .lengths)
 
 same-length-5 : tie.Need-same-length-5 Inv-loop μ-loop
-same-length-5 c = c .before .before .before .before .before .before .before .before .owners .given ∙ c .before .before .before .before .before .before .before .before .before .before .before .before .before .before .before .before .before .before .before .before .before .before .before .before .before .before .loop .inv .owners
+same-length-5 c = c .before .before .before .before .before .before .before .before .owners .given ∙ ap (λ (p : Pieces). p .owners) (c .before .before .before .before .before .before .before .before .before .before .before .before .before .before .before .before .before .before .before .before .before .before .before .before .before .before .loop .inv .lengths)
 
 same-length-6 : tie.Need-same-length-6 Inv-loop μ-loop
-same-length-6 c = c .before .before .before .before .before .before .history .given ∙ c .before .before .before .before .before .before .before .before .before .before .before .before .before .before .before .before .before .before .before .before .before .before .before .before .before .before .loop .inv .history
+same-length-6 c = c .before .before .before .before .before .before .history .given ∙ ap (λ (p : Pieces). p .history) (c .before .before .before .before .before .before .before .before .before .before .before .before .before .before .before .before .before .before .before .before .before .before .before .before .before .before .loop .inv .lengths)
 
 same-length-7 : tie.Need-same-length-7 Inv-loop μ-loop
-same-length-7 c = c .before .before .before .before .out .given ∙ c .before .before .before .before .before .before .before .before .before .before .before .before .before .before .before .before .before .before .before .before .before .before .before .before .before .before .loop .inv .out
+same-length-7 c = c .before .before .before .before .out .given ∙ c .before .before .before .before .before .before .before .before .before .before .before .before .before .before .before .before .before .before .before .before .before .before .before .before .before .before .loop .inv .same-room
 
 returns : tie.Need-returns Inv-loop μ-loop
-returns c = search needs
+returns c = reads-all (c .before .before .before .before .before .before .before .before .before .before .before .before .before .before .before .before .before .before .before .before .before .before .before .before .before .before .loop .inv) (c .before .before .before .before .before .before .before .before .before .before .before .before .before .before .before .before .before .read-some .ensures) (c .if1 .taken) (c .before .before .before .before .before .before .before .before .before .before .before .before .before .before .before .before .before .before .before .before .before .before .before .before .before .before .before .start .ensures _)
 
 sub-turns : tie.Need-sub-turns Inv-loop μ-loop
 sub-turns c = omega (arith, c .before .before .before .before .before .before .before .before .before .before .before .before .before .before .before .before .before .before .before .before .before .before .before .before .before .loop-test .taken)
@@ -54,31 +56,31 @@ loop-less : tie.Need-loop-less Inv-loop μ-loop
 loop-less c = omega (arith, c .before .before .before .before .before .before .before .before .before .before .before .before .before .before .before .before .before .before .before .before .before .before .before .before .before .loop-test .taken)
 
 loop-again : tie.Need-loop-again Inv-loop μ-loop
-loop-again c = record { archive = c .before .before .before .before .before .before .before .before .before .before .before .before .before .before .before .before .archive .given ∙ c .before .before .before .before .before .before .before .before .before .before .before .before .before .before .before .before .before .before .before .before .before .before .before .before .before .before .loop .inv .archive; pool = c .before .before .before .before .before .before .before .before .before .before .before .before .before .before .pool .given ∙ c .before .before .before .before .before .before .before .before .before .before .before .before .before .before .before .before .before .before .before .before .before .before .before .before .before .before .loop .inv .pool; groups = c .before .before .before .before .before .before .before .before .before .before .before .before .groups .given ∙ c .before .before .before .before .before .before .before .before .before .before .before .before .before .before .before .before .before .before .before .before .before .before .before .before .before .before .loop .inv .groups; table = c .before .before .before .before .before .before .before .before .before .before .table .given ∙ c .before .before .before .before .before .before .before .before .before .before .before .before .before .before .before .before .before .before .before .before .before .before .before .before .before .before .loop .inv .table; owners = c .before .before .before .before .before .before .before .before .owners .given ∙ c .before .before .before .before .before .before .before .before .before .before .before .before .before .before .before .before .before .before .before .before .before .before .before .before .before .before .loop .inv .owners; history = c .before .before .before .before .before .before .history .given ∙ c .before .before .before .before .before .before .before .before .before .before .before .before .before .before .before .before .before .before .before .before .before .before .before .before .before .before .loop .inv .history; out = c .before .before .before .before .out .given ∙ c .before .before .before .before .before .before .before .before .before .before .before .before .before .before .before .before .before .before .before .before .before .before .before .before .before .before .loop .inv .out }
+loop-again c = underway-next (c .before .before .before .before .before .before .before .before .before .before .before .before .before .before .before .before .before .before .before .before .before .before .before .before .before .before .loop .inv) (c .before .before .before .before .before .before .before .before .before .before .before .before .before .before .before .before .before .read-some .ensures) _ (c .before .before .before .before .out .given) (c .if1 .left)
 
 same-length-8 : tie.Need-same-length-8 Inv-loop μ-loop
-same-length-8 c = c .before .loop .inv .archive
+same-length-8 c = ap (λ (p : Pieces). p .archive) (c .before .loop .inv .lengths)
 
 same-length-9 : tie.Need-same-length-9 Inv-loop μ-loop
-same-length-9 c = c .before .loop .inv .pool
+same-length-9 c = ap (λ (p : Pieces). p .pool) (c .before .loop .inv .lengths)
 
 same-length-10 : tie.Need-same-length-10 Inv-loop μ-loop
-same-length-10 c = c .before .loop .inv .groups
+same-length-10 c = ap (λ (p : Pieces). p .groups) (c .before .loop .inv .lengths)
 
 same-length-11 : tie.Need-same-length-11 Inv-loop μ-loop
-same-length-11 c = c .before .loop .inv .table
+same-length-11 c = ap (λ (p : Pieces). p .table) (c .before .loop .inv .lengths)
 
 same-length-12 : tie.Need-same-length-12 Inv-loop μ-loop
-same-length-12 c = c .before .loop .inv .owners
+same-length-12 c = ap (λ (p : Pieces). p .owners) (c .before .loop .inv .lengths)
 
 same-length-13 : tie.Need-same-length-13 Inv-loop μ-loop
-same-length-13 c = c .before .loop .inv .history
+same-length-13 c = ap (λ (p : Pieces). p .history) (c .before .loop .inv .lengths)
 
 same-length-14 : tie.Need-same-length-14 Inv-loop μ-loop
-same-length-14 c = c .before .loop .inv .out
+same-length-14 c = c .before .loop .inv .same-room
 
 returns-2 : tie.Need-returns-2 Inv-loop μ-loop
-returns-2 c = search needs
+returns-2 c = reads-too-many (c .before .loop .inv)
 
 pub read-all-spec : {M : Type 1} → statement M
 read-all-spec =

@@ -1,27 +1,20 @@
 -- `session::feed` meets its contract. Assumes nothing.
-use borrow.Author.Needs.{needs}
+use mathlib.Core.Path.{_≡_, sym, _∙_, ap}
+use lib.ListN.{length}
+use Rattle.rules.specs.Settings.{Pieces}
 use native.Mathlib.Omega.{arith}
-use Rattle.session.proofs.Streaming.{continues-within, continues-line}
+use lib.Seq.{length-take-le}
+use Rattle.session.proofs.Feeding.{end-few, taken-full, taken-rest, taken-part}
+use Rattle.session.proofs.Whole.{line-room, taken-line}
+use borrow.Author.Needs.{needs}
 use Rattle.session.proofs.feed.Statement.{statement}
 use Rattle.session.proofs.feed.Tie as tie
 
-take-line-requires : tie.Need-take-line-requires
-take-line-requires c κs = search needs
-
-no-text-requires : tie.Need-no-text-requires
-no-text-requires c κs = search needs
-
 returns : tie.Need-returns
-returns c = (
-  continues-within _ _ _ _ _ (c .before .before .before .before .before .take-line .ensures .0) (c .before .before .before .before .before .take-line .ensures .1) _ (c .before .if1 .taken) (c .no-text .ensures),
-  (c .no-text .ensures .few, λ h. omega (arith, h, c .before .if1 .taken)),
-)
+returns c = taken-full _ _ _ _ (c .if1 .taken)
 
-answer-requires : tie.Need-answer-requires
-answer-requires c κs = search needs
-
-add-t20 : tie.Need-add-t20
-add-t20 c = omega (arith, c .before .before .before .before .before .before .before .before .before .before .before .before .before .before .before .before .before .before .before .before .before .if1 .left, c .before .before .before .before .before .before .before .before .before .before .before .before .before .before .before .before .before .before .before .before .before .before .before .before .before .before .before .before .before .before .before .before .before .before .good .1 .1 .1 .1 .1 .1 .1 .0)
+feed-rest-requires : tie.Need-feed-rest-requires
+feed-rest-requires c κs = search needs
 
 same-length : tie.Need-same-length
 same-length c = search needs
@@ -41,25 +34,95 @@ same-length-5 c = search needs
 same-length-6 : tie.Need-same-length-6
 same-length-6 c = search needs
 
+same-length-7 : tie.Need-same-length-7
+same-length-7 c = search needs
+
 returns-2 : tie.Need-returns-2
-returns-2 c = (
-  continues-line _ _ _ _ _ (c .before .before .before .before .before .before .before .before .before .before .before .before .before .before .before .before .before .before .before .before .before .before .before .before .before .take-line .ensures .0) (c .before .before .before .before .before .before .before .before .before .before .before .before .before .before .before .before .before .before .before .before .before .before .before .before .before .take-line .ensures .1) _ _ _ (c .before .before .before .before .before .before .before .before .before .before .before .before .before .before .before .before .before .before .before .before .before .if1 .left) (c .before .before .before .before .before .before .before .before .before .before .before .before .before .before .answer .ensures),
-  (c .before .before .before .before .before .before .before .before .before .before .before .before .before .before .answer .ensures .few, λ h. omega arith),
-)
+returns-2 c = taken-rest _ _ _ _ _ _ _ _ _ (c .before .before .before .before .before .before .before .before .before .before .before .before .before .before .before .before .before .before .before .before .before .before .before .before .before .before .before .if1 .left) (c .before .before .before .before .before .before .before .before .before .before .before .before .before .before .before .before .before .before .before .before .before .before .if2 .taken) (c .before .before .before .before .before .before .before .before .before .before .before .before .before .before .feed-rest .ensures)
+
+part-end-requires : tie.Need-part-end-requires
+part-end-requires c κs = search needs
+
+slice-aggregate-keep : tie.Need-slice-aggregate-keep
+slice-aggregate-keep c = sym (length-take-le _ _ (end-few _ _ (c .before .part-end .ensures)))
+
+keep-requires : tie.Need-keep-requires
+keep-requires c κs = search needs
+
+returns-3 : tie.Need-returns-3
+returns-3 c = taken-part _ _ _ _ _ _ (c .before .before .before .before .before .before .before .before .before .if1 .left) (c .before .before .before .part-end .ensures) (c .if3 .taken) (c .before .keep .ensures)
+
+ended-requires : tie.Need-ended-requires
+ended-requires c κs = search needs
+
+array-share-prefix-kept : tie.Need-array-share-prefix-kept
+array-share-prefix-kept c = let long : length (c .before .before .before .before .before .before .before .ended .result .kept) ≡ 82 = search needs in omega (arith, long, (c .before .before .before .before .before .before .before .ended .ensures .few))
+
+slice-aggregate-answer-lines : tie.Need-slice-aggregate-answer-lines
+slice-aggregate-answer-lines c = let long : length (c .before .before .before .before .before .before .before .before .ended .result .kept) ≡ 82 = search needs in sym (length-take-le _ _ (omega (arith, long, (c .before .before .before .before .before .before .before .before .ended .ensures .few))))
+
+answer-lines-requires : tie.Need-answer-lines-requires
+answer-lines-requires c κs = search needs
+
+add-feed-rest : tie.Need-add-feed-rest
+add-feed-rest c = omega (arith, (c .before .before .before .before .before .before .before .before .before .before .before .before .before .before .before .before .before .before .before .before .before .before .before .before .before .before .before .before .before .before .before .before .before .if3 .left), (c .before .before .before .before .before .before .before .before .before .before .before .before .before .before .before .before .before .before .before .before .before .before .before .before .before .before .before .before .before .before .before .before .before .before .before .before .before .before .before .before .before .before .before .before .before .before .before .before .before .before .before .good .1 .1 .1 .1 .1 .1 .1 .0 .0))
+
+feed-rest-requires-2 : tie.Need-feed-rest-requires-2
+feed-rest-requires-2 c κs = (omega (arith, (c .before .before .before .before .before .before .before .before .before .before .before .before .before .before .before .before .before .before .before .before .before .before .before .before .before .before .before .before .before .before .before .before .before .before .if3 .left)), c .before .before .before .before .before .before .before .before .before .before .before .before .before .before .before .before .before .before .before .before .before .before .before .answer-lines .ensures .0 .few)
+
+same-length-8 : tie.Need-same-length-8
+same-length-8 c = ap (λ (p : Pieces). p .archive) (c .before .before .before .before .before .before .before .before .before .before .before .before .before .before .feed-rest2 .ensures .lengths ∙ c .before .before .before .before .before .before .before .before .before .before .before .before .before .before .before .before .before .before .before .before .before .before .before .before .before .before .before .before .before .before .before .before .before .before .before .before .before .before .answer-lines .ensures .0 .lengths)
+
+same-length-9 : tie.Need-same-length-9
+same-length-9 c = ap (λ (p : Pieces). p .pool) (c .before .before .before .before .before .before .before .before .before .before .before .before .before .before .feed-rest2 .ensures .lengths ∙ c .before .before .before .before .before .before .before .before .before .before .before .before .before .before .before .before .before .before .before .before .before .before .before .before .before .before .before .before .before .before .before .before .before .before .before .before .before .before .answer-lines .ensures .0 .lengths)
+
+same-length-10 : tie.Need-same-length-10
+same-length-10 c = ap (λ (p : Pieces). p .groups) (c .before .before .before .before .before .before .before .before .before .before .before .before .before .before .feed-rest2 .ensures .lengths ∙ c .before .before .before .before .before .before .before .before .before .before .before .before .before .before .before .before .before .before .before .before .before .before .before .before .before .before .before .before .before .before .before .before .before .before .before .before .before .before .answer-lines .ensures .0 .lengths)
+
+same-length-11 : tie.Need-same-length-11
+same-length-11 c = ap (λ (p : Pieces). p .table) (c .before .before .before .before .before .before .before .before .before .before .before .before .before .before .feed-rest2 .ensures .lengths ∙ c .before .before .before .before .before .before .before .before .before .before .before .before .before .before .before .before .before .before .before .before .before .before .before .before .before .before .before .before .before .before .before .before .before .before .before .before .before .before .answer-lines .ensures .0 .lengths)
+
+same-length-12 : tie.Need-same-length-12
+same-length-12 c = ap (λ (p : Pieces). p .owners) (c .before .before .before .before .before .before .before .before .before .before .before .before .before .before .feed-rest2 .ensures .lengths ∙ c .before .before .before .before .before .before .before .before .before .before .before .before .before .before .before .before .before .before .before .before .before .before .before .before .before .before .before .before .before .before .before .before .before .before .before .before .before .before .answer-lines .ensures .0 .lengths)
+
+same-length-13 : tie.Need-same-length-13
+same-length-13 c = ap (λ (p : Pieces). p .history) (c .before .before .before .before .before .before .before .before .before .before .before .before .before .before .feed-rest2 .ensures .lengths ∙ c .before .before .before .before .before .before .before .before .before .before .before .before .before .before .before .before .before .before .before .before .before .before .before .before .before .before .before .before .before .before .before .before .before .before .before .before .before .before .answer-lines .ensures .0 .lengths)
+
+same-length-14 : tie.Need-same-length-14
+same-length-14 c = search needs
+
+returns-4 : tie.Need-returns-4
+returns-4 c = taken-line _ _ _ _ _ _ _ _ _ _ _ _ _ _ (c .before .before .before .before .before .before .before .before .before .before .before .before .before .before .before .before .before .before .before .before .before .before .before .before .before .before .before .before .before .before .before .before .before .before .before .before .before .before .before .before .before .before .before .before .before .before .before .before .before .before .before .before .before .before .before .before .before .before .if1 .left) (c .before .before .before .before .before .before .before .before .before .before .before .before .before .before .before .before .before .before .before .before .before .before .before .before .before .before .before .before .before .before .before .before .before .before .before .before .before .before .before .before .before .before .before .before .before .before .before .before .before .before .before .before .part-end .ensures) (c .before .before .before .before .before .before .before .before .before .before .before .before .before .before .before .before .before .before .before .before .before .before .before .before .before .before .before .before .before .before .before .before .before .before .before .before .before .before .before .before .before .before .before .before .before .before .before .before .before .if3 .left) (c .before .before .before .before .before .before .before .before .before .before .before .before .before .before .before .before .before .before .before .before .before .before .before .before .before .before .before .before .before .before .before .before .before .before .before .before .before .before .before .before .before .before .before .before .before .before .before .before .before .before .keep .ensures) (c .before .before .before .before .before .before .before .before .before .before .before .before .before .before .before .before .before .before .before .before .before .before .before .before .before .before .before .before .before .before .before .before .before .before .before .before .before .before .before .before .before .before .before .before .before .before .before .before .ended .ensures) (c .before .before .before .before .before .before .before .before .before .before .before .before .before .before .before .before .before .before .before .before .before .before .before .before .before .before .before .before .before .before .before .before .before .before .before .before .before .before .answer-lines .ensures .0) (c .before .before .before .before .before .before .before .before .before .before .before .before .before .before .before .before .before .before .before .before .before .before .before .before .before .before .before .before .before .before .before .before .before .before .before .before .before .before .answer-lines .ensures .1) _ _ _ _ _ (c .before .before .before .before .before .before .before .before .before .before .before .before .before .before .feed-rest2 .ensures)
 
 pub feed-spec : {M : Type 1} → statement M
 feed-spec =
     tie.close
     (tie.spec
-    take-line-requires
-    no-text-requires
     returns
-    answer-requires
-    add-t20
+    feed-rest-requires
     same-length
     same-length-2
     same-length-3
     same-length-4
     same-length-5
     same-length-6
-    returns-2)
+    same-length-7
+    returns-2
+    part-end-requires
+    slice-aggregate-keep
+    keep-requires
+    returns-3
+    ended-requires
+    array-share-prefix-kept
+    slice-aggregate-answer-lines
+    answer-lines-requires
+    add-feed-rest
+    feed-rest-requires-2
+    same-length-8
+    same-length-9
+    same-length-10
+    same-length-11
+    same-length-12
+    same-length-13
+    same-length-14
+    returns-4)

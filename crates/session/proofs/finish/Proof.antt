@@ -1,25 +1,33 @@
 -- `session::finish` meets its contract. Assumes nothing.
-use borrow.Author.Needs.{needs}
 use native.Mathlib.Omega.{arith}
-use mathlib.Core.Path.{refl}
-use Rattle.session.proofs.Streaming.{finish-room, finish-few, finish-ends}
+use mathlib.Core.Path.{_≡_, sym}
+use lib.ListN.{length}
+use lib.Seq.{length-take-le}
+use Rattle.session.proofs.Finishing.{finished-none, finished-short, finished}
+use borrow.Author.Needs.{needs}
 use Rattle.session.proofs.finish.Statement.{statement}
 use Rattle.session.proofs.finish.Tie as tie
 
+add-if1 : tie.Need-add-if1
+add-if1 c = search needs
+
 returns : tie.Need-returns
-returns c = (omega arith, λ h. absurd (omega (arith, h, c .if1 .taken)), λ h. (refl, refl, refl))
+returns c = finished-none _ _ _ (c .if1 .taken)
 
-answer-requires : tie.Need-answer-requires
-answer-requires c κs = search needs
+ended-requires : tie.Need-ended-requires
+ended-requires c κs = search needs
 
-put-line-requires : tie.Need-put-line-requires
-put-line-requires c κs = search needs
+array-share-prefix-kept : tie.Need-array-share-prefix-kept
+array-share-prefix-kept c = let long : length (c .before .before .before .before .before .before .before .before .before .ended .result .kept) ≡ 82 = search needs in omega (arith, long, (c .before .before .before .before .before .before .before .before .before .ended .ensures .few))
 
-end-line-requires : tie.Need-end-line-requires
-end-line-requires c κs = search needs
+slice-aggregate-answer-lines : tie.Need-slice-aggregate-answer-lines
+slice-aggregate-answer-lines c = let long : length (c .before .before .before .before .before .before .before .before .before .before .ended .result .kept) ≡ 82 = search needs in sym (length-take-le _ _ (omega (arith, long, (c .before .before .before .before .before .before .before .before .before .before .ended .ensures .few))))
 
-put-line-requires-2 : tie.Need-put-line-requires-2
-put-line-requires-2 c κs = (c .before .end-line .ensures .few, finish-room _ _ _ _ _ (c .before .before .before .before .before .before .before .before .before .before .before .before .before .before .before .before .before .before .before .before .before .answer .ensures .few) (c .before .before .before .before .before .before .before .before .before .before .before .before .before .before .before .before .before .before .before .before .before .before .before .before .before .before .before .before .if1 .left) (c .before .before .before .before .before .put-line .ensures))
+answer-lines-requires : tie.Need-answer-lines-requires
+answer-lines-requires c κs = search needs
+
+sub-if2 : tie.Need-sub-if2
+sub-if2 c = search needs
 
 same-length : tie.Need-same-length
 same-length c = search needs
@@ -43,17 +51,46 @@ same-length-7 : tie.Need-same-length-7
 same-length-7 c = search needs
 
 returns-2 : tie.Need-returns-2
-returns-2 c = (finish-few _ _ _ _ _ _ _ _ _ _ _ (c .before .before .before .before .before .before .before .before .before .before .before .before .before .before .before .before .before .before .before .before .before .before .before .before .answer .ensures) (c .before .before .before .before .end-line .ensures) (c .before .before .before .before .before .before .before .before .put-line .ensures) (c .before .before .put-line2 .ensures) (c .before .before .before .before .before .before .before .before .before .before .before .before .before .before .before .before .before .before .before .before .before .before .before .before .before .before .before .before .before .before .before .if1 .left), λ h. finish-ends _ _ _ _ _ _ _ _ _ _ _ (c .before .before .before .before .before .before .before .before .before .before .before .before .before .before .before .before .before .before .before .before .before .before .before .before .answer .ensures) (c .before .before .before .before .end-line .ensures) (c .before .before .before .before .before .before .before .before .put-line .ensures) (c .before .before .put-line2 .ensures) h, λ h. absurd (omega (arith, h, c .before .before .before .before .before .before .before .before .before .before .before .before .before .before .before .before .before .before .before .before .before .before .before .before .before .before .before .before .before .before .before .if1 .left)))
+returns-2 c = finished-short _ _ _ _ _ _ _ _ _ _ _ (c .before .before .before .before .before .before .before .before .before .before .before .before .before .before .before .before .before .before .before .before .before .before .before .before .before .before .before .before .before .before .if1 .left) (c .before .before .before .before .before .before .before .before .before .before .before .before .before .before .before .before .before .before .before .before .before .before .before .before .before .before .before .before .ended .ensures) (c .before .before .before .before .before .before .before .before .before .before .before .before .before .before .before .before .answer-lines .ensures .0) (c .before .before .before .before .before .before .before .before .before .before .before .before .before .before .before .before .answer-lines .ensures .1) (c .if2 .taken)
+
+put-end-requires : tie.Need-put-end-requires
+put-end-requires c κs = search needs
+
+same-length-8 : tie.Need-same-length-8
+same-length-8 c = search needs
+
+same-length-9 : tie.Need-same-length-9
+same-length-9 c = search needs
+
+same-length-10 : tie.Need-same-length-10
+same-length-10 c = search needs
+
+same-length-11 : tie.Need-same-length-11
+same-length-11 c = search needs
+
+same-length-12 : tie.Need-same-length-12
+same-length-12 c = search needs
+
+same-length-13 : tie.Need-same-length-13
+same-length-13 c = search needs
+
+same-length-14 : tie.Need-same-length-14
+same-length-14 c = search needs
+
+returns-3 : tie.Need-returns-3
+returns-3 c = finished _ _ _ _ _ _ _ _ _ _ _ (c .before .before .before .before .before .before .before .before .before .before .before .before .before .before .before .before .before .before .before .before .before .before .before .before .before .before .before .before .before .before .before .before .before .before .if1 .left) (c .before .before .before .before .before .before .before .before .before .before .before .before .before .before .before .before .before .before .before .before .before .before .before .before .before .before .before .before .before .before .before .before .ended .ensures) (c .before .before .before .before .before .before .before .before .before .before .before .before .before .before .before .before .before .before .before .before .answer-lines .ensures .0) (c .before .before .before .before .before .before .before .before .before .before .before .before .before .before .before .before .before .before .before .before .answer-lines .ensures .1) _ _ (c .before .before .before .before .if2 .left) (c .before .before .put-end .ensures)
 
 pub finish-spec : {M : Type 1} → statement M
 finish-spec =
     tie.close
     (tie.spec
+    add-if1
     returns
-    answer-requires
-    put-line-requires
-    end-line-requires
-    put-line-requires-2
+    ended-requires
+    array-share-prefix-kept
+    slice-aggregate-answer-lines
+    answer-lines-requires
+    sub-if2
     same-length
     same-length-2
     same-length-3
@@ -61,4 +98,13 @@ finish-spec =
     same-length-5
     same-length-6
     same-length-7
-    returns-2)
+    returns-2
+    put-end-requires
+    same-length-8
+    same-length-9
+    same-length-10
+    same-length-11
+    same-length-12
+    same-length-13
+    same-length-14
+    returns-3)

@@ -11,7 +11,7 @@ no-line-requires : tie.Need-no-line-requires
 no-line-requires c κs = search needs
 
 returns : tie.Need-returns
-returns c = λ lent. stands-first _ _ lent (c .no-line .ensures)
+returns c = λ lent. search stands-first
 
 pub start-spec : {M : Type 1} → statement M
 start-spec = tie.close (tie.spec blank-requires no-line-requires returns)

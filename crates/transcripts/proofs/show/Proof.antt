@@ -1,4 +1,4 @@
--- `transcripts::show` is safe and ends: there are three sizes of chunks. Assumes nothing.
+-- `transcripts::show` is safe and ends: there are nine plays. Assumes nothing.
 use borrow.Author.Needs.{needs}
 use native.Mathlib.Omega.{arith}
 use mathlib.Core.Path.{_≡_, refl, sym, _∙_, ap}
@@ -19,7 +19,7 @@ Inv-loop archive₀ pool₀ groups₀ table₀ owners₀ history₀ input first�
 
 abbrev μ-loop : tie.MeasureT-loop
 μ-loop archive₀ pool₀ groups₀ table₀ owners₀ history₀ input first₀ kept₀ turn₀ archive pool groups table owners history first kept turn =
-    3 - turn
+    9 - turn
 
 large-buffer-requires : tie.Need-large-buffer-requires Inv-loop μ-loop
 large-buffer-requires c κs = tt
@@ -32,6 +32,9 @@ large-buffer-requires-2 c κs = tt
 
 size-of-requires : tie.Need-size-of-requires Inv-loop μ-loop
 size-of-requires c κs = tt
+
+room-of-requires : tie.Need-room-of-requires Inv-loop μ-loop
+room-of-requires c κs = tt
 
 slice-aggregate-play : tie.Need-slice-aggregate-play Inv-loop μ-loop
 slice-aggregate-play c = search needs
@@ -46,19 +49,19 @@ slice-aggregate-report : tie.Need-slice-aggregate-report Inv-loop μ-loop
 slice-aggregate-report c = sym (length-take-le _ _ (c .before .before .before .before .before .before .before .before .before .before .before .before .before .before .play .ensures))
 
 slice-aggregate-report-2 : tie.Need-slice-aggregate-report-2 Inv-loop μ-loop
-slice-aggregate-report-2 c = c .before .before .before .before .before .before .before .before .before .before .before .before .before .before .before .before .before .before .before .before .before .before .before .before .before .before .loop .inv .1
+slice-aggregate-report-2 c = c .before .before .before .before .before .before .before .before .before .before .before .before .before .before .before .before .before .before .before .before .before .before .before .before .before .before .before .loop .inv .1
 
 report-requires : tie.Need-report-requires Inv-loop μ-loop
-report-requires c κs = c .before .before .before .before .before .before .before .before .before .before .before .before .before .before .before .before .before .before .before .before .before .before .before .before .before .before .loop .inv .2
+report-requires c κs = c .before .before .before .before .before .before .before .before .before .before .before .before .before .before .before .before .before .before .before .before .before .before .before .before .before .before .before .loop .inv .2
 
 add-turn : tie.Need-add-turn Inv-loop μ-loop
-add-turn c = omega (arith, c .before .before .before .before .before .before .before .before .before .before .before .before .before .before .before .before .before .before .before .before .before .before .before .before .before .before .before .loop-test .taken)
+add-turn c = omega (arith, c .before .before .before .before .before .before .before .before .before .before .before .before .before .before .before .before .before .before .before .before .before .before .before .before .before .before .before .before .loop-test .taken)
 
 loop-less : tie.Need-loop-less Inv-loop μ-loop
-loop-less c = omega (arith, c .before .before .before .before .before .before .before .before .before .before .before .before .before .before .before .before .before .before .before .before .before .before .before .before .before .before .before .loop-test .taken)
+loop-less c = omega (arith, c .before .before .before .before .before .before .before .before .before .before .before .before .before .before .before .before .before .before .before .before .before .before .before .before .before .before .before .before .loop-test .taken)
 
 loop-again : tie.Need-loop-again Inv-loop μ-loop
-loop-again c = (same-pieces (c .before .before .before .before .before .before .before .before .before .before .before .before .before .before .before .before .archive .given) (c .before .before .before .before .before .before .before .before .before .before .before .before .before .before .pool .given) (c .before .before .before .before .before .before .before .before .before .before .before .before .groups .given) (c .before .before .before .before .before .before .before .before .before .before .table .given) (c .before .before .before .before .before .before .before .before .owners .given) (c .before .before .before .before .before .before .history .given) ∙ c .before .before .before .before .before .before .before .before .before .before .before .before .before .before .before .before .before .before .before .before .before .before .before .before .before .before .before .before .loop .inv .0, sym (c .first2 .given), c .before .report .ensures)
+loop-again c = (same-pieces (c .before .before .before .before .before .before .before .before .before .before .before .before .before .before .before .before .archive .given) (c .before .before .before .before .before .before .before .before .before .before .before .before .before .before .pool .given) (c .before .before .before .before .before .before .before .before .before .before .before .before .groups .given) (c .before .before .before .before .before .before .before .before .before .before .table .given) (c .before .before .before .before .before .before .before .before .owners .given) (c .before .before .before .before .before .before .history .given) ∙ c .before .before .before .before .before .before .before .before .before .before .before .before .before .before .before .before .before .before .before .before .before .before .before .before .before .before .before .before .before .loop .inv .0, sym (c .first2 .given), c .before .report .ensures)
 
 same-length : tie.Need-same-length Inv-loop μ-loop
 same-length c = ap (λ (p : Pieces). p .archive) (c .before .loop .inv .0)
@@ -91,6 +94,7 @@ show-spec =
     loop-holds
     large-buffer-requires-2
     size-of-requires
+    room-of-requires
     slice-aggregate-play
     play-requires
     array-share-prefix-out

@@ -1,0 +1,20 @@
+-- Reads that ended well, and the end of input: what was said is the transcript of what was read. Assumes nothing.
+use mathlib.Core.Path.{_≡_, refl}
+use mathlib.Core.Bool.{Bool, true}
+use mathlib.Core.List.{_++_}
+use Prim.Native.Nat.{ℕ, _+_, _≤_}
+use lib.ListN.{length, take}
+use Rattle.text.specs.Parts.{Text}
+use Rattle.store.specs.Shown.{Lent, lengthsOf}
+use Rattle.replies.specs.Answers.{longest, longestEnd}
+use Rattle.session.specs.declared.Runner.{Runner}
+use Rattle.session.specs.Transcript.{transcript}
+use Rattle.session.specs.Running.{Finishes}
+use Rattle.session.proofs.Streaming.{says-transcript}
+use Rattle.runner.specs.Reading.{ReadsAll}
+
+pub read-transcript : {m after left : Lent} {s : Runner} {more : Bool} {first out : Text} {end : ℕ} → ReadsAll m s after more true → Finishes s after first left out end
+    → longest + longestEnd ≤ length first → (input : Text) × (said : Text) × (said ++ take end out ≡ transcript (lengthsOf m) input)
+read-transcript {m} {after} {s = s} {out = out} {end = end} a f room =
+    let g = a .fed refl in
+    (g .2, g .3, says-transcript (g .0) s m after (g .2) (g .3) (take end out) (g .1) (g .4) (f .ends room))

@@ -11,7 +11,7 @@ use lib.ListN.{length, length-append}
 use Rattle.text.specs.Parts.{Text}
 use Rattle.text.specs.Numbers.{decimal}
 use Rattle.text.specs.Output.{Puts}
-use Rattle.text.proofs.Putting.{decimal-few}
+use Rattle.text.proofs.Putting.{puts-length, puts-then, decimal-few}
 use Rattle.rules.specs.Call.{Origin, Answer, numberIn}
 use Rattle.rules.specs.Call.Place.{in-frame, in-archive}
 use Rattle.rules.specs.Call.Origin.{from-cache, from}
@@ -68,10 +68,19 @@ values-of n Nothing = refl
 values-of n (Read value origin) = refl
 values-of n (Counts live pages) = refl
 
-pub line-of-no : (n : ℕ) (shown : Shown) → n ≢ 0 → (110 ∷ 111 ∷ []) ++ ((9 ∷ decimal n) ++ (10 ∷ [])) ≡ answerLine (answerOf n shown)
+pub puts-no : (n : ℕ) (shown : Shown) {a b c d : Text} {at k l m : ℕ} → at + longest ≤ length a → n ≢ 0 → Puts a at (110 ∷ 111 ∷ []) b k → Puts b k (9 ∷ decimal n) c l → Puts c l (10 ∷ []) d m
+    → Puts a at (answerLine (answerOf n shown)) d m
 unfolding answerLine noLine
-line-of-no n shown h = rw (number-of, ne-eqb n 0 h)
+puts-no n shown room h p q r = rw (number-of, ne-eqb n 0 h) (puts-then (omega arith) p (puts-then (omega (arith, puts-length _ _ _ _ _ (omega arith) p)) q r))
 
-pub line-of-ok : (n : ℕ) (shown : Shown) → n ≡ 0 → (111 ∷ 107 ∷ []) ++ (valuesText (answerOf 0 shown) ++ (10 ∷ [])) ≡ answerLine (answerOf n shown)
+pub puts-ok : (n : ℕ) (shown : Shown) {a b c d : Text} {at k l m : ℕ} → at + longest ≤ length a → n ≡ 0 → Puts a at (111 ∷ 107 ∷ []) b k → Puts b k (valuesText (answerOf 0 shown)) c l
+    → Puts c l (10 ∷ []) d m → Puts a at (answerLine (answerOf n shown)) d m
 unfolding answerLine okLine
-line-of-ok n shown h = rw (number-of, eq-eqb n 0 h, values-of n)
+puts-ok n shown room h p q r = rw (number-of, eq-eqb n 0 h, ← values-of n shown) (puts-then (omega arith) p (puts-then (omega (arith, puts-length _ _ _ _ _ (omega arith) p)) q r))
+
+pub puts-end : (oks noes : ℕ) {a b c d e : Text} {at k l m n : ℕ} → at + longestEnd ≤ length a → Puts a at (101 ∷ 110 ∷ 100 ∷ []) b k → Puts b k (9 ∷ decimal oks) c l
+    → Puts c l (9 ∷ decimal noes) d m → Puts d m (10 ∷ []) e n → Puts a at (endLine oks noes) e n
+unfolding endLine
+puts-end oks noes {a} {b} {c} {d} {e} {at} {k} {l} room p q r s =
+    let first : length b ≡ length a = puts-length _ _ _ _ _ (omega arith) p in
+    puts-then (omega arith) p (puts-then (omega arith) q (puts-then (omega (arith, decimal-few oks, puts-length _ _ _ _ _ (omega (arith, decimal-few oks)) q)) r s))

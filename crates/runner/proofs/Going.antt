@@ -1,8 +1,11 @@
 -- A chunk fed by one call after another. Assumes nothing.
 use mathlib.Core.Path.{_≡_, refl, sym, _∙_, ap, subst}
+use mathlib.Core.Bool.{true, false, false≢true}
 use mathlib.Core.List.{[], _++_, append-nil}
-use Prim.Native.Nat.{ℕ, _+_, _-_, _≤_, _<_}
+use Prim.Native.Nat.{ℕ, _+_, _-_, _^_, _≤_, _<_}
 use native.Mathlib.Omega.{arith}
+use mir.Val.{Fits}
+use mir.Syntax.{w64}
 use lib.ListN.{length, take, drop, length-drop, drop-of-length-le}
 use lib.Seq.{take-all, drop-drop}
 use Rattle.text.specs.Parts.{Text}
@@ -11,8 +14,9 @@ use Rattle.session.specs.declared.Runner.{Runner}
 use Rattle.session.specs.Running.{Taken}
 use Rattle.session.specs.Streamed.{Feeds}
 use Rattle.session.specs.Streamed.Feeds.{stop, next}
-use Rattle.session.proofs.Streaming.{taken-continues}
+use Rattle.session.proofs.Taking.{taken-room}
 use Rattle.replies.specs.Answers.{longest}
+use Rattle.runner.specs.Reading.{Answers}
 
 pub record Going (r : Runner) (m : Lent) (chunk first : Text) (s : Runner) (n : Lent) (out : Text) (from : ℕ) : Type 0 where
   pub within : from ≤ length chunk
@@ -31,25 +35,37 @@ module _ {r : Runner} {m : Lent} {chunk first : Text} {s : Runner} {n : Lent} {o
     taken : Taken s n (drop from chunk) out t o after used filled
     taken = subst (λ (c : Text). Taken s n c out t o after used filled) part k
 
-    pub going-within : from + used ≤ length chunk
+    going-within : from + used ≤ length chunk
     going-within = omega (arith, taken .within, length-drop from chunk, w .within)
 
-    pub going-less : longest ≤ length out → from < length chunk → length chunk - (from + used) < length chunk - from
-    going-less h l = omega (arith, taken .moves h (omega (arith, length-drop from chunk)), taken .within, length-drop from chunk)
+    pub going-fits : length chunk < 2 ^ 64 → Fits w64 (from + used)
+    going-fits h = record { fits = omega (arith, going-within) }
+
+    pub going-less : longest ≤ length first → from < length chunk → length chunk - (from + used) < length chunk - from
+    going-less h l = omega (arith, taken .moves (omega (arith, w .same-room)) (omega (arith, length-drop from chunk)), taken .within, length-drop from chunk)
 
     pub going-next : Going r m chunk first t o after (from + used)
     going-next =
         record {
           within = going-within;
           lengths = k .lengths ∙ w .lengths;
-          same-room = k .same-room ∙ w .same-room;
+          same-room = taken-room k ∙ w .same-room;
           on =
               λ later u p f.
-              w .on (take filled after ++ later) u p
-              (subst (λ (i : Text). Feeds s n i (take filled after ++ later) u p) (append-nil (drop from chunk))
-              (next (drop from chunk) [] (take filled after) (taken-continues taken)
+              w .on (taken .said ++ later) u p
+              (subst (λ (i : Text). Feeds s n i (taken .said ++ later) u p) (append-nil (drop from chunk))
+              (next (drop from chunk) [] taken
               (subst (λ (i : Text). Feeds t o i later u p) (sym (append-nil (drop used (drop from chunk)) ∙ drop-drop used from chunk)) f)));
         }
 
-  pub going-end : length chunk ≤ from → (said : Text) × Feeds r m chunk said s n
-  going-end h = w .on [] s n (subst (λ (i : Text). Feeds s n i [] s n) (sym (drop-of-length-le chunk {i = from} h)) stop)
+    -- what was said could not be written
+    pub answers-cut : Answers r m chunk t o false false
+    answers-cut = record { lengths = k .lengths ∙ w .lengths; more-is = refl; fed = λ e. absurd (false≢true e) }
+
+  pub answers-all : length chunk ≤ from → Answers r m chunk s n true true
+  answers-all h =
+      record {
+        lengths = w .lengths;
+        more-is = refl;
+        fed = λ e. w .on [] s n (subst (λ (i : Text). Feeds s n i [] s n) (sym (drop-of-length-le chunk {i = from} h)) stop);
+      }

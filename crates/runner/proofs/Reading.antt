@@ -16,10 +16,10 @@ use Rattle.runner.specs.Reading.{Answers, Reads, ReadsAll}
 pub feeds-more : {r s t : Runner} {m n o : Lent} {input said input′ said′ : Text} → Feeds r m input said s n → Feeds s n input′ said′ t o
     → Feeds r m (input ++ input′) (said ++ said′) t o
 feeds-more stop f = f
-feeds-more {r = r} {t = t} {m = m} {o = o} {input′ = input′} {said′ = said′} (next {s = mid} {n = left} {used = used} chunk rest said {later = later} c run) f =
-    subst (λ (i : Text). Feeds r m i ((said ++ later) ++ said′) t o) (sym (append-assoc chunk rest input′))
-    (subst (λ (i : Text). Feeds r m (chunk ++ (rest ++ input′)) i t o) (sym (append-assoc said later said′))
-    (next chunk (rest ++ input′) said c (subst (λ (i : Text). Feeds mid left i (later ++ said′) t o) (append-assoc (drop used chunk) rest input′) (feeds-more run f))))
+feeds-more {r = r} {t = t} {m = m} {o = o} {input′ = input′} {said′ = said′} (next {s = mid} {n = left} {used = used} chunk rest {later = later} w run) f =
+    subst (λ (i : Text). Feeds r m i ((w .said ++ later) ++ said′) t o) (sym (append-assoc chunk rest input′))
+    (subst (λ (i : Text). Feeds r m (chunk ++ (rest ++ input′)) i t o) (sym (append-assoc (w .said) later said′))
+    (next chunk (rest ++ input′) w (subst (λ (i : Text). Feeds mid left i (later ++ said′) t o) (append-assoc (drop used chunk) rest input′) (feeds-more run f))))
 
 -- What a read promises, by the way in which it ends.
 module _ (r : Runner) (m : Lent) where

@@ -13,8 +13,8 @@ use Rattle.session.specs.Running.{Finishes}
 use Rattle.session.proofs.Streaming.{says-transcript}
 use Rattle.runner.specs.Reading.{ReadsAll}
 
-pub read-transcript : {m after left : Lent} {s : Runner} {more : Bool} {first out : Text} {end : ℕ} → ReadsAll m s after more true → Finishes s after first left out end
-    → longest + longestEnd ≤ length first → (input : Text) × (said : Text) × (said ++ take end out ≡ transcript (lengthsOf m) input)
-read-transcript {m} {after} {s = s} {out = out} {end = end} a f room =
+pub read-transcript : {m after left : Lent} {s : Runner} {more : Bool} {first out : Text} {end : ℕ} → ReadsAll m s after more true → (f : Finishes s after first left out end)
+    → longest + longestEnd ≤ length first → (input : Text) × (said : Text) × (said ++ f .said ≡ transcript (lengthsOf m) input)
+read-transcript {m} {after} {s = s} a f room =
     let g = a .fed refl in
-    (g .2, g .3, says-transcript (g .0) s m after (g .2) (g .3) (take end out) (g .1) (g .4) (f .ends room))
+    (g .2, g .3, says-transcript (g .0) s m after (g .2) (g .3) (f .said) (g .1) (g .4) (f .ends room))

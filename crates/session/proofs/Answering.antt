@@ -26,7 +26,7 @@ use Rattle.replies.specs.Calls.{callOf}
 use Rattle.replies.proofs.Lines.{number-of, answer-few}
 use Rattle.session.specs.Transcript.{Store, Running, beginning, counted, storeAfter, lineAnswer, lineStore, lineText, lineAfter}
 use Rattle.session.specs.Running.{Stored, tallyOn, StandsFor}
-use Rattle.session.specs.Between.{early, admitted, startedAfter, Desk, deskOf, keptOn, lengthsOn, Stands}
+use Rattle.session.specs.Between.{early, admitted, startedAfter, Desk, deskOf, keptOn, Stands}
 use Rattle.session.proofs.Asking.{early-answer, early-store, answers-call, refused-same}
 use Rattle.session.proofs.Tallies.{tally-next, counted-store}
 
@@ -39,11 +39,11 @@ stands-first state reader lent b h = record { reader = h; part = omega arith; ta
 -- The answer to a line, whichever runner of the transcript it was. A line that is refused, and so adds no `ok`, leaves state and lent memory
 -- as they were.
 pub record AnswersLine (d : Desk) (line : Text) (e : Desk) (answer : Text) : Type 0 where
-  pub lengths : lengthsOn e ≡ lengthsOn d
+  pub lengths : lengthsOf (e .lent) ≡ lengthsOf (d .lent)
   pub few : length answer ≤ longest
-  pub text : (x : Running) → Stands d x → answer ≡ lineText (lengthsOn d) x line
-  pub stands : (x : Running) → Stands d x → Stands e (lineAfter (lengthsOn d) x line)
-  pub refused-kept : (x : Running) → Stands d x → lineAfter (lengthsOn d) x line .oks ≡ x .oks → keptOn e ≡ keptOn d
+  pub text : (x : Running) → Stands d x → answer ≡ lineText (lengthsOf (d .lent)) x line
+  pub stands : (x : Running) → Stands d x → Stands e (lineAfter (lengthsOf (d .lent)) x line)
+  pub refused-kept : (x : Running) → Stands d x → lineAfter (lengthsOf (d .lent)) x line .oks ≡ x .oks → keptOn e ≡ keptOn d
 
 -- What a line says in code.
 shown-zero : (r : Parsed) → r .refusal ≡ 0 → shownParsed r ≡ asks (r .entry .word) (numbersOf (r .entry))
@@ -75,8 +75,8 @@ module _ (started : Bool) (line : Text) (r : Parsed) (p : shownParsed r ≡ pars
 
 -- What an answer has to be, for any store of the session: the transcript's, with the store that it leaves.
 pub record Fits (d : Desk) (p : Asked) (a : Answer) (started : Bool) (state : StoreState) (after : Lent) : Type 0 where
-  pub answer : (o : Store) → Stored (d .started) (keptOn d) o → a ≡ lineAnswer (lengthsOn d) o p
-  pub store : (o : Store) → Stored (d .started) (keptOn d) o → Stored started (kept state after) (lineStore (lengthsOn d) o p)
+  pub answer : (o : Store) → Stored (d .started) (keptOn d) o → a ≡ lineAnswer (lengthsOf (d .lent)) o p
+  pub store : (o : Store) → Stored (d .started) (keptOn d) o → Stored started (kept state after) (lineStore (lengthsOf (d .lent)) o p)
 
 counted-refused : (a : Answer) (x : Running) (o : Store) → counted a x o .oks ≡ x .oks → numberIn a ≡ 0 → ⊥
 unfolding counted
@@ -91,33 +91,33 @@ module _ (d : Desk) (n : ℕ) (shown : Shown) (started : Bool) (state : StoreSta
 
   module _ (b : ℕ) (bs : Text) (fit : Fits d (parsed (b ∷ bs)) (answerOf n shown) started state after) where
     module _ (x : Running) (q : Stands d x) where
-      said : answerOf n shown ≡ lineAnswer (lengthsOn d) (x .store) (parsed (b ∷ bs))
+      said : answerOf n shown ≡ lineAnswer (lengthsOf (d .lent)) (x .store) (parsed (b ∷ bs))
       said = fit .answer (x .store) (q .store)
 
-      text-some : answerLine (answerOf n shown) ≡ lineText (lengthsOn d) x (b ∷ bs)
+      text-some : answerLine (answerOf n shown) ≡ lineText (lengthsOf (d .lent)) x (b ∷ bs)
       unfolding lineText
       text-some = ap answerLine said
 
-      number-is : numberIn (lineAnswer (lengthsOn d) (x .store) (parsed (b ∷ bs))) ≡ n
+      number-is : numberIn (lineAnswer (lengthsOf (d .lent)) (x .store) (parsed (b ∷ bs))) ≡ n
       number-is = ap numberIn (sym said) ∙ number-of n shown
 
-      beside : tallyAfter (d .tally) n ≡ tallyOn (lineAfter (lengthsOn d) x (b ∷ bs))
+      beside : tallyAfter (d .tally) n ≡ tallyOn (lineAfter (lengthsOf (d .lent)) x (b ∷ bs))
       unfolding lineAfter
       beside =
-          tally-next (d .tally) x (lineAnswer (lengthsOn d) (x .store) (parsed (b ∷ bs))) (lineStore (lengthsOn d) (x .store) (parsed (b ∷ bs))) (q .tally) n number-is
+          tally-next (d .tally) x (lineAnswer (lengthsOf (d .lent)) (x .store) (parsed (b ∷ bs))) (lineStore (lengthsOf (d .lent)) (x .store) (parsed (b ∷ bs))) (q .tally) n number-is
 
-      stored : Stored started (kept state after) (lineAfter (lengthsOn d) x (b ∷ bs) .store)
+      stored : Stored started (kept state after) (lineAfter (lengthsOf (d .lent)) x (b ∷ bs) .store)
       unfolding lineAfter
       stored =
           subst (Stored started (kept state after))
-          (sym (counted-store (lineAnswer (lengthsOn d) (x .store) (parsed (b ∷ bs))) x (lineStore (lengthsOn d) (x .store) (parsed (b ∷ bs)))))
+          (sym (counted-store (lineAnswer (lengthsOf (d .lent)) (x .store) (parsed (b ∷ bs))) x (lineStore (lengthsOf (d .lent)) (x .store) (parsed (b ∷ bs)))))
           (fit .store (x .store) (q .store))
 
-      no-ok : lineAfter (lengthsOn d) x (b ∷ bs) .oks ≡ x .oks → n ≡ 0 → ⊥
+      no-ok : lineAfter (lengthsOf (d .lent)) x (b ∷ bs) .oks ≡ x .oks → n ≡ 0 → ⊥
       unfolding lineAfter
-      no-ok e z = counted-refused (lineAnswer (lengthsOn d) (x .store) (parsed (b ∷ bs))) x (lineStore (lengthsOn d) (x .store) (parsed (b ∷ bs))) e (number-is ∙ z)
+      no-ok e z = counted-refused (lineAnswer (lengthsOf (d .lent)) (x .store) (parsed (b ∷ bs))) x (lineStore (lengthsOf (d .lent)) (x .store) (parsed (b ∷ bs))) e (number-is ∙ z)
 
-    some-answered : lengthsOf after ≡ lengthsOn d → ((n ≡ 0 → ⊥) → kept state after ≡ keptOn d) → AnswersLine d (b ∷ bs) left (answerLine (answerOf n shown))
+    some-answered : lengthsOf after ≡ lengthsOf (d .lent) → ((n ≡ 0 → ⊥) → kept state after ≡ keptOn d) → AnswersLine d (b ∷ bs) left (answerLine (answerOf n shown))
     some-answered e k =
         record {
           lengths = e;
@@ -128,7 +128,7 @@ module _ (d : Desk) (n : ℕ) (shown : Shown) (started : Bool) (state : StoreSta
         }
 
   line-answered : (line : Text) → 0 < length line → Fits d (parsed line) (answerOf n shown) started state after
-      → lengthsOf after ≡ lengthsOn d → ((n ≡ 0 → ⊥) → kept state after ≡ keptOn d) → AnswersLine d line left (answerLine (answerOf n shown))
+      → lengthsOf after ≡ lengthsOf (d .lent) → ((n ≡ 0 → ⊥) → kept state after ≡ keptOn d) → AnswersLine d line left (answerLine (answerOf n shown))
   line-answered [] h fit e k = absurd (omega (arith, h))
   line-answered (b ∷ bs) h fit e k = some-answered b bs fit e k
 
@@ -171,7 +171,7 @@ module _ (d : Desk) (n : ℕ) (shown : Shown) (started : Bool) (state : StoreSta
         answer = k .answer;
         store =
             λ o q.
-            subst (λ (b : Bool). Stored b (kept state after) (storeAfter (lengthsOn d) o (callOf w ns))) (ap (startedAfter (d .started)) (number-of n shown) ∙ sym s) (k .after o q);
+            subst (λ (b : Bool). Stored b (kept state after) (storeAfter (lengthsOf (d .lent)) o (callOf w ns))) (ap (startedAfter (d .started)) (number-of n shown) ∙ sym s) (k .after o q);
       }
 
   fits-up : (p : Asked) → asks w ns ≡ admitted (d .started) p → Fits d p (answerOf n shown) started state after

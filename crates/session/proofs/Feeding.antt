@@ -11,6 +11,7 @@ use Rattle.text.specs.Parts.{Text, upTo}
 use Rattle.text.specs.Lines.{Holds, Extends}
 use Rattle.text.specs.declared.Reader.{Reader}
 use Rattle.text.proofs.Fields.{up-to-length}
+use Rattle.text.proofs.Putting.{puts-none}
 use Rattle.store.specs.Shown.{Lent, lengthsOf}
 use Rattle.replies.specs.Answers.{longest}
 use Rattle.session.specs.declared.Runner.{Runner}
@@ -27,9 +28,9 @@ taken-full r m chunk out h =
       lengths = refl;
       within = omega arith;
       moves = λ k l. absurd (omega (arith, h, k));
-      same-room = refl;
-      few = omega arith;
-      rest = refl;
+      said = [];
+      fits = omega arith;
+      puts = puts-none _ 0;
       full = λ k. (refl, refl, refl, refl);
       tells =
           λ x begun q.
@@ -55,15 +56,15 @@ taken-rest r m chunk first s after out used filled h e w =
       lengths = w .lengths;
       within = w .within;
       moves = λ k l. w .moves (omega arith) l;
-      same-room = w .same-room;
-      few = w .few;
-      rest = w .rest;
+      said = w .said;
+      fits = omega (arith, w .fits);
+      puts = w .puts;
       full = λ k. absurd (omega (arith, h, k));
       tells =
           λ x begun q.
-          subst (λ (b : Text). Tells (keptBy r m) x s after used (take filled out) (toldTo (lengthsOf m) (length first) x b chunk)) (sym (empty-line (r .reader) begun (q .reader) e))
-          (subst (λ (n : ℕ). Tells (keptBy r m) x s after n (take filled out) (toldTo (lengthsOf m) (length first) x [] chunk)) (from-nought used)
-          (subst (λ (n : ℕ). Tells (keptBy r m) x s after (used - 0) (take filled out) (toldTo (lengthsOf m) n x [] chunk)) (from-nought (length first)) (w .tells x (desk-stands q))));
+          subst (λ (b : Text). Tells (keptBy r m) x s after used (w .said) (toldTo (lengthsOf m) (length first) x b chunk)) (sym (empty-line (r .reader) begun (q .reader) e))
+          (subst (λ (n : ℕ). Tells (keptBy r m) x s after n (w .said) (toldTo (lengthsOf m) (length first) x [] chunk)) (from-nought used)
+          (subst (λ (n : ℕ). Tells (keptBy r m) x s after (used - 0) (w .said) (toldTo (lengthsOf m) n x [] chunk)) (from-nought (length first)) (w .tells x (desk-stands q))));
     }
 
 -- Where a part of a line goes on.
@@ -86,9 +87,9 @@ taken-part r m chunk first whole end h here long keeps =
       lengths = refl;
       within = omega (arith, here, up-to-length 10 chunk);
       moves = λ k l. omega (arith, long, l);
-      same-room = refl;
-      few = omega arith;
-      rest = refl;
+      said = [];
+      fits = omega arith;
+      puts = puts-none _ 0;
       full = λ k. absurd (omega (arith, h, k));
       tells =
           λ x begun q.

@@ -4,14 +4,13 @@ use mathlib.Core.Bool.{Bool}
 use mathlib.Core.List.{[], _∷_, _++_}
 use Prim.Native.Nat.{ℕ, _+_, _-_, _≤_, _<_}
 use native.Mathlib.Omega.{arith}
-use lib.ListN.{length, take, drop}
-use lib.Seq.{length-take-le, drop-drop}
+use lib.ListN.{length, take, length-append}
 use Rattle.text.specs.Parts.{Text, upTo}
 use Rattle.text.specs.Lines.{looked}
 use Rattle.text.specs.Lines as lines
 use Rattle.text.specs.Output.{Puts}
 use Rattle.text.specs.declared.Reader.{Reader}
-use Rattle.text.proofs.Putting.{puts-head, puts-rest, puts-length}
+use Rattle.text.proofs.Putting.{puts-none, puts-then}
 use Rattle.rules.specs.Settings.{Pieces}
 use Rattle.store.specs.Shown.{StoreState, Lent, Kept, lengthsOf}
 use Rattle.tally.specs.declared.Tally.{Tally}
@@ -29,9 +28,9 @@ pub finished-none : (r : Runner) (m : Lent) (out : Text) → length out < longes
 finished-none r m out h =
     record {
       lengths = refl;
-      same-room = refl;
-      few = omega arith;
-      rest = refl;
+      said = [];
+      fits = omega arith;
+      puts = puts-none out 0;
       full = λ k. (refl, refl, refl);
       ends = λ k. absurd (omega (arith, h, k));
       leaves = λ k. absurd (omega (arith, h, k));
@@ -50,39 +49,33 @@ module _ (r : Runner) (m : Lent) (first : Text) (line : Reader) (state : StoreSt
     bytes : take (line .count) (line .kept) ≡ looked begun ++ (10 ∷ [])
     bytes = ended .bytes begun (q .reader)
 
-    w2 : Lines (deskIn r m) (looked begun ++ (10 ∷ [])) 0 first 0 (deskOf state started tally lent) mid k f
-    w2 = subst (λ (t : Text). Lines (deskIn r m) t 0 first 0 (deskOf state started tally lent) mid k f) bytes w
-
-    z2 : Ended (looked begun ++ (10 ∷ [])) (length first) k f
-    z2 = subst (λ (t : Text). Ended t (length first) k f) bytes z
-
     no2 : length (looked begun) ≤ upTo 10 (looked begun)
     no2 = up-to-take 81 begun (q .part)
 
-    said-is : take f mid ≡ lineText (lengthsOf m) x begun
-    said-is = whole-text (deskIn r m) (looked begun) first _ mid k f w2 z2 no2 (omega (arith, h)) x (desk-stands q) ∙ looked-text (lengthsOf m) x begun
+    said-is : w .said ≡ lineText (lengthsOf m) x begun
+    said-is = whole-text (deskIn r m) _ (looked begun) first _ mid k f bytes w z no2 (omega (arith, h)) x (desk-stands q) ∙ looked-text (lengthsOf m) x begun
 
     stands : Stands (deskOf state started tally lent) (lineAfter (lengthsOf m) x begun)
     stands =
         subst (Stands (deskOf state started tally lent)) (looked-after (lengthsOf m) x begun)
-        (whole-stands (deskIn r m) (looked begun) first _ mid k f w2 z2 no2 (omega (arith, h)) x (desk-stands q))
+        (whole-stands (deskIn r m) _ (looked begun) first _ mid k f bytes w z no2 (omega (arith, h)) x (desk-stands q))
 
     same : lineAfter (lengthsOf m) x begun .oks ≡ x .oks → lent ≡ m
     same o =
         ap (λ (s : Kept). s .memory)
-        (whole-kept (deskIn r m) (looked begun) first _ mid k f w2 z2 no2 (omega (arith, h)) x (desk-stands q) (ap (λ (y : Running). y .oks) (looked-after (lengthsOf m) x begun) ∙ o))
+        (whole-kept (deskIn r m) _ (looked begun) first _ mid k f bytes w z no2 (omega (arith, h)) x (desk-stands q) (ap (λ (y : Running). y .oks) (looked-after (lengthsOf m) x begun) ∙ o))
 
     short : f ≤ longest
-    short = omega (arith, length-take-le f mid (w .few), ap length said-is, line-few (lengthsOf m) x begun)
+    short = omega (arith, w .puts .ends, ap length said-is, line-few (lengthsOf m) x begun)
 
   -- never on a runner that stands for one of the transcript's
   pub finished-short : length first - f < longestEnd → Finishes r m first lent mid f
   finished-short j =
       record {
         lengths = w .lengths;
-        same-room = w .same-room;
-        few = w .few;
-        rest = w .rest;
+        said = w .said;
+        fits = omega (arith, w .fits);
+        puts = w .puts;
         full = λ l. absurd (omega (arith, h, l));
         ends = λ l x begun q. absurd (omega (arith, h, j, short x begun q));
         leaves = λ l x begun q. absurd (omega (arith, h, j, short x begun q));
@@ -90,27 +83,17 @@ module _ (r : Runner) (m : Lent) (first : Text) (line : Reader) (state : StoreSt
       }
 
   module _ (out : Text) (end : ℕ) (j : longestEnd ≤ length first - f) (p : Puts mid f (endLine (tally .oks) (tally .noes)) out end) where
-    fits : f + length (endLine (tally .oks) (tally .noes)) ≤ length mid
-    fits = omega (arith, w .same-room, w .few, j, end-few (tally .oks) (tally .noes))
-
-    same-length : length out ≡ length mid
-    same-length = puts-length mid f (endLine (tally .oks) (tally .noes)) out end fits p
-
     pub finished : Finishes r m first lent out end
     finished =
         record {
           lengths = w .lengths;
-          same-room = same-length ∙ w .same-room;
-          few = omega (arith, p .ends, same-length, fits);
-          rest =
-              puts-rest mid f (endLine (tally .oks) (tally .noes)) out end (w .few) p
-              ∙ (ap (λ (n : ℕ). drop n mid) (p .ends)
-              ∙ (sym (drop-drop (length (endLine (tally .oks) (tally .noes))) f mid) ∙ (ap (drop (length (endLine (tally .oks) (tally .noes)))) (w .rest) ∙ (drop-drop (length (endLine (tally .oks) (tally .noes))) f first ∙ ap (λ (n : ℕ). drop n first) (sym (p .ends))))));
+          said = w .said ++ endLine (tally .oks) (tally .noes);
+          fits = omega (arith, length-append (w .said) (endLine (tally .oks) (tally .noes)), w .puts .ends, j, end-few (tally .oks) (tally .noes));
+          puts = puts-then (omega arith) (w .puts) p;
           full = λ l. absurd (omega (arith, h, l));
           ends =
               λ l x begun q.
-              puts-head mid f (endLine (tally .oks) (tally .noes)) out end (w .few) p
-              ∙ (ap₂ (λ (a b : Text). a ++ b) (said-is x begun q) (ap (λ (t : Tally). endLine (t .oks) (t .noes)) (stands x begun q .tally)) ∙ sym (last-line (lengthsOf m) x begun));
+              ap₂ (λ (a b : Text). a ++ b) (said-is x begun q) (ap (λ (t : Tally). endLine (t .oks) (t .noes)) (stands x begun q .tally)) ∙ sym (last-line (lengthsOf m) x begun);
           leaves = λ l x begun q. (state, started, stands x begun q .store);
           refused-kept = λ l x begun q o. same x begun q o;
         }

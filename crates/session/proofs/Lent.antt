@@ -22,13 +22,13 @@ use Rattle.rules.specs.Promise.{formOf}
 use Rattle.rules.proofs.Promise.{accepted-form}
 use Rattle.rules.proofs.Settings.{Good, within-good}
 use Rattle.records.specs.declared.Word.{Word}
-use Rattle.records.specs.Records.{Asked, sameText, seldom, rows, wordIn, numbersIn, asked, withNumbers, recordIn, parsed}
+use Rattle.records.specs.Records.{Asked, parsed}
 use Rattle.records.specs.Records.Asked.{asks, turned-down}
 use Rattle.records.proofs.Refusing.{turned-low}
 use Rattle.text.specs.Parts.{Text, split, linesOf}
 use Rattle.replies.specs.Answers.{endLine}
 use Rattle.replies.specs.Calls.{callOf}
-use Rattle.session.specs.Transcript.{Store, Running, resetIn, unstartedRefusal, unstartedStore, answerTo, storeAfter, lineAnswer, lineStore, beginning, lineText, lineAfter, answersTo, transcript, runnerLent, pastRoom, asksTooMuch, getsSix, SixExactly}
+use Rattle.session.specs.Transcript.{Store, Running, resetIn, unstartedRefusal, unstartedStore, answerTo, storeAfter, lineAnswer, lineStore, beginning, lineText, lineAfter, answersTo, transcript, runnerLent, pastRoom, asksTooMuch, SixExactly}
 use Rattle.session.proofs.Asking.{Resets, Acts, word-call, named}
 use Rattle.session.proofs.Tallies.{counted-store}
 
@@ -197,11 +197,6 @@ module _ (x : Running) (q : Roomy runnerLent (x .store)) where
       (λ a. ne-eqb _ 6 (act-number (x .store) w ns a q) ∙ sym (ap (λ (c : Call). pastRoom (resetIn c)) (a .call)))
       (word-call w ns)
 
-  line-exactly : (line : Text) → getsSix x line ≡ asksTooMuch (parsed line)
-  unfolding getsSix asksTooMuch parsed recordIn withNumbers asked wordIn rows seldom sameText numbersIn split
-  line-exactly [] = refl
-  line-exactly (b ∷ bs) = asked-exactly (parsed (b ∷ bs)) (turned-low (b ∷ bs))
-
   line-roomy : (line : Text) → Roomy runnerLent (lineAfter runnerLent x line .store)
   unfolding lineAfter lineStore
   line-roomy [] = q
@@ -214,7 +209,7 @@ module _ (x : Running) (q : Roomy runnerLent (x .store)) where
 
 lines-exactly : (x : Running) (lines : List Text) → Roomy runnerLent (x .store) → SixExactly x lines
 lines-exactly x [] q = tt
-lines-exactly x (line ∷ lines) q = (line-exactly x q line, lines-exactly (lineAfter runnerLent x line) lines (line-roomy x q line))
+lines-exactly x (line ∷ lines) q = (asked-exactly x q (parsed line) (turned-low line), lines-exactly (lineAfter runnerLent x line) lines (line-roomy x q line))
 
 -- Of every session: a line gets 6 exactly if it is a reset to otherwise good settings past the memory that the runner lends.
 pub session-six : (input : Text) → SixExactly beginning (linesOf input)

@@ -7,6 +7,7 @@ pub mod Stepping
 pub mod Resting
 pub mod Feeding
 pub mod Streaming
+pub mod Taking
 pub mod Lent
 pub mod Whole
 pub mod Finishing

@@ -11,13 +11,13 @@ use lib.Seq.{take-all}
 use Rattle.text.specs.Parts.{Text}
 use Rattle.text.specs.Lines.{Holds, Extends}
 use Rattle.text.specs.declared.Reader.{Reader}
-use Rattle.store.specs.Shown.{StoreState, Lent, Kept}
+use Rattle.store.specs.Shown.{StoreState, Lent, Kept, lengthsOf}
 use Rattle.tally.specs.declared.Tally.{Tally}
 use Rattle.replies.specs.Answers.{longest}
 use Rattle.session.specs.declared.Runner.{Runner}
 use Rattle.session.specs.Transcript.{Running, Told, stopped, onward}
 use Rattle.session.specs.Running.{keptBy, StandsFor, Tells}
-use Rattle.session.specs.Between.{Desk, deskOf, keptOn, lengthsOn, Lines, Ended, Rested}
+use Rattle.session.specs.Between.{Desk, deskOf, keptOn, Lines, Ended, Rested}
 use Rattle.session.proofs.Telling.{onward-then, told-full, told-within}
 
 -- What stands behind is nothing.
@@ -38,16 +38,14 @@ module _ {d : Desk} {text : Text} {from : ℕ} {first : Text} {at : ℕ} {state 
         low = w .low;
         within = w .within;
         moves = λ r l. moves used refl r;
-        same-room = w .same-room;
-        behind = w .behind;
-        few = w .few;
-        head = w .head;
-        rest = w .rest;
+        said = w .said;
+        fits = w .fits;
+        puts = w .puts;
         tells =
             λ x q.
             let g = w .goes x q in
-            tells-as (keptOn d) x _ lent (used - from) (drop at (take filled out)) _ (g .now) []
-            (g .told ∙ ap (onward (used - from) (drop at (take filled out))) (told-full (lengthsOn d) (length first - filled) (g .now) [] (drop used text) h))
+            tells-as (keptOn d) x _ lent (used - from) (w .said) _ (g .now) []
+            (g .told ∙ ap (onward (used - from) (w .said)) (told-full (lengthsOf (d .lent)) (length first - filled) (g .now) [] (drop used text) h))
             (record { reader = none; part = omega arith; tally = g .stands .tally; store = g .stands .store }) (g .refused-kept);
       }
     where
@@ -69,20 +67,18 @@ module _ {d : Desk} {text : Text} {from : ℕ} {first : Text} {at : ℕ} {state 
         low = omega (arith, w .low, w .within);
         within = omega arith;
         moves = λ r l. l;
-        same-room = w .same-room;
-        behind = w .behind;
-        few = w .few;
-        head = w .head;
-        rest = w .rest;
+        said = w .said;
+        fits = w .fits;
+        puts = w .puts;
         tells =
             λ x q.
             let g = w .goes x q in
-            tells-as (keptOn d) x _ lent (length text - from) (drop at (take filled out)) _ (g .now) (drop used text)
+            tells-as (keptOn d) x _ lent (length text - from) (w .said) _ (g .now) (drop used text)
             (g .told
-            ∙ (ap (onward (used - from) (drop at (take filled out))) (told-within (lengthsOn d) (length first - filled) (g .now) [] (drop used text) h (ended .no-line h))
-            ∙ (onward-then (used - from) (length (drop used text)) (drop at (take filled out)) [] (stopped (g .now) (drop used text))
-            ∙ ap₂ (λ (n : ℕ) (t : Text). onward n t (stopped (g .now) (drop used text))) sum (append-nil (drop at (take filled out))))))
-            (record { reader = held; part = ended .no-line h; tally = g .stands .tally; store = g .stands .store }) (g .refused-kept);
+            ∙ (ap (onward (used - from) (w .said)) (told-within (lengthsOf (d .lent)) (length first - filled) (g .now) [] (drop used text) h (ended h))
+            ∙ (onward-then (used - from) (length (drop used text)) (w .said) [] (stopped (g .now) (drop used text))
+            ∙ ap₂ (λ (n : ℕ) (t : Text). onward n t (stopped (g .now) (drop used text))) sum (append-nil (w .said)))))
+            (record { reader = held; part = ended h; tally = g .stands .tally; store = g .stands .store }) (g .refused-kept);
       }
     where
       sum : (used - from) + length (drop used text) ≡ length text - from

@@ -20,12 +20,12 @@ use Rattle.replies.specs.Answers.{answerLine, longest}
 use Rattle.replies.specs.Lines.{answerOf}
 use Rattle.replies.specs.Calls.{callOf}
 use Rattle.session.specs.Between.{admitted, startedAfter, Desk, deskOf, keptOn, Lines}
-use Rattle.session.proofs.Lines.{answers-nothing, lines-next}
+use Rattle.session.proofs.Lines.{answers-nothing, lines-room, lines-few, lines-next}
 use Rattle.session.proofs.Answering.{AnswersLine, answers-down, answers-up}
 
 module _ {d : Desk} {text : Text} {from : ℕ} {first : Text} {at : ℕ} {e : Desk} {out : Text} {used filled : ℕ} (w : Lines d text from first at e out used filled) where
   pub turn-room : (room : ℕ) → longest ≤ room - filled → room ≡ length first → filled + longest ≤ length out
-  turn-room room h e = omega (arith, w .same-room)
+  turn-room room h e = omega (arith, lines-room w, lines-few w)
 
   module _ (end : ℕ) (here : end ≡ used + upTo 10 (drop used text)) (inside : end < length text) (room : longest ≤ length first - filled) where
     pub turn-less : length text - (end + 1) < length text - used

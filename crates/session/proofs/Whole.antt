@@ -6,12 +6,13 @@ use Prim.Native.Nat.{ℕ, zero, suc, _+_, _-_, _≤_, _<_}
 use native.Mathlib.Omega.{arith}
 use borrow.Author.Tests.{ltb-true, ltb-false, leb-true, leb-false, lt-leb}
 use lib.Dec.{ltb, leb, eqb}
-use lib.ListN.{length, take, drop, length-take, length-append, take-append-drop}
-use lib.Seq.{take-all, take-nil, take-take, take-append-seam, drop-drop, drop-length, length-take-le}
+use lib.ListN.{length, take, drop, length-take, length-append}
+use lib.Seq.{take-all, take-nil, take-append-seam, drop-length}
 use Rattle.text.specs.Parts.{Text, upTo, fieldsOf}
 use Rattle.text.specs.Lines.{limit, looked, Extends}
 use Rattle.text.specs.Lines as lines
 use Rattle.text.specs.declared.Reader.{Reader}
+use Rattle.text.proofs.Putting.{puts-then}
 use Rattle.records.specs.Records.{Asked, recordIn, parsed}
 use Rattle.records.specs.Records.Asked.{turned-down}
 use Rattle.rules.specs.Settings.{Pieces}
@@ -21,8 +22,9 @@ use Rattle.replies.specs.Answers.{answerLine, longest}
 use Rattle.session.specs.declared.Runner.{Runner}
 use Rattle.session.specs.Transcript.{Running, Told, stopped, onward, counted, lineAnswer, lineStore, lineText, lineAfter, toldTo}
 use Rattle.session.specs.Running.{keptBy, StandsFor, Tells, Taken}
-use Rattle.session.specs.Between.{Desk, deskOf, deskIn, keptOn, lengthsOn, Stands, Goes, Lines, Ended, Rested}
+use Rattle.session.specs.Between.{Desk, deskOf, deskIn, keptOn, Stands, Goes, Lines, Ended, Rested}
 use Rattle.session.proofs.Telling.{told-full, told-within, told-ended, line-oks, told-oks}
+use Rattle.session.proofs.Lines.{lines-room, lines-few}
 use Rattle.session.proofs.Feeding.{desk-stands, up-to-append}
 
 -- A line says what the bytes of it that are looked at say.
@@ -101,28 +103,29 @@ quiet lengths room y text h = go (ltb room longest) refl
         subst (Quiet y) (sym (told-within lengths room y [] text long (h long))) (record { said = refl; running = refl })
 
 -- One whole line.
-module _ (d : Desk) (line first : Text) (e : Desk) (out : Text) (used filled : ℕ) (w : Lines d (line ++ (10 ∷ [])) 0 first 0 e out used filled)
-    (z : Ended (line ++ (10 ∷ [])) (length first) used filled) (no : length line ≤ upTo 10 line) (room : longest ≤ length first) where
+module _ (d : Desk) (text line first : Text) (e : Desk) (out : Text) (used filled : ℕ) (is : text ≡ line ++ (10 ∷ [])) (w : Lines d text 0 first 0 e out used filled)
+    (z : Ended text (length first) used filled) (no : length line ≤ upTo 10 line) (room : longest ≤ length first) where
   module _ (x : Running) (q : Stands d x) where
-    abbrev went : Goes d x (length first - 0) (line ++ (10 ∷ [])) e (used - 0) (take filled out) (length first - filled) (drop used (line ++ (10 ∷ [])))
+    abbrev went : Goes d x (length first - 0) text e (used - 0) (w .said) (length first - filled) (drop used text)
     went = w .goes x q
 
     ends-at : upTo 10 (line ++ (10 ∷ [])) ≡ length line
     unfolding upTo
     ends-at = omega (arith, up-to-append line (10 ∷ []) no)
 
-    as-one : toldTo (lengthsOn d) (length first - 0) x [] (line ++ (10 ∷ [])) ≡ onward (suc (length line)) (lineText (lengthsOn d) x line) (stopped (lineAfter (lengthsOn d) x line) [])
+    as-one : toldTo (lengthsOf (d .lent)) (length first - 0) x [] text ≡ onward (suc (length line)) (lineText (lengthsOf (d .lent)) x line) (stopped (lineAfter (lengthsOf (d .lent)) x line) [])
     unfolding toldTo
     as-one =
-        told-ended (lengthsOn d) (length first - 0) x [] (line ++ (10 ∷ [])) (omega arith) (omega (arith, ends-at, length-append line (10 ∷ [])))
+        ap (toldTo (lengthsOf (d .lent)) (length first - 0) x []) is
+        ∙ (told-ended (lengthsOf (d .lent)) (length first - 0) x [] (line ++ (10 ∷ [])) (omega arith) (omega (arith, ends-at, length-append line (10 ∷ [])))
         ∙ (ap
-        (λ (n : ℕ). onward (suc n) (lineText (lengthsOn d) x (take n (line ++ (10 ∷ []))))
-        (toldTo (lengthsOn d) (length first - 0 - length (lineText (lengthsOn d) x (take n (line ++ (10 ∷ []))))) (lineAfter (lengthsOn d) x (take n (line ++ (10 ∷ [])))) []
+        (λ (n : ℕ). onward (suc n) (lineText (lengthsOf (d .lent)) x (take n (line ++ (10 ∷ []))))
+        (toldTo (lengthsOf (d .lent)) (length first - 0 - length (lineText (lengthsOf (d .lent)) x (take n (line ++ (10 ∷ []))))) (lineAfter (lengthsOf (d .lent)) x (take n (line ++ (10 ∷ [])))) []
         (drop (suc n) (line ++ (10 ∷ [])))))
         ends-at
         ∙ ap₂
-        (λ (t r : Text). onward (suc (length line)) (lineText (lengthsOn d) x t) (toldTo (lengthsOn d) (length first - 0 - length (lineText (lengthsOn d) x t)) (lineAfter (lengthsOn d) x t) [] r))
-        (take-append-seam line (10 ∷ [])) behind)
+        (λ (t r : Text). onward (suc (length line)) (lineText (lengthsOf (d .lent)) x t) (toldTo (lengthsOf (d .lent)) (length first - 0 - length (lineText (lengthsOf (d .lent)) x t)) (lineAfter (lengthsOf (d .lent)) x t) [] r))
+        (take-append-seam line (10 ∷ [])) behind))
       where
         behind : drop (suc (length line)) (line ++ (10 ∷ [])) ≡ []
         behind = ap (λ (n : ℕ). drop n (line ++ (10 ∷ []))) (sym (long (length (line ++ (10 ∷ []))) (length line) (length-append line (10 ∷ [])))) ∙ drop-length (line ++ (10 ∷ []))
@@ -131,28 +134,28 @@ module _ (d : Desk) (line first : Text) (e : Desk) (out : Text) (used filled : �
             long m n g = omega arith
 
     abbrev last : Told
-    last = toldTo (lengthsOn d) (length first - filled) (went .now) [] (drop used (line ++ (10 ∷ [])))
+    last = toldTo (lengthsOf (d .lent)) (length first - filled) (went .now) [] (drop used text)
 
     silent : Quiet (went .now) last
-    silent = quiet (lengthsOn d) (length first - filled) (went .now) (drop used (line ++ (10 ∷ []))) (z .no-line)
+    silent = quiet (lengthsOf (d .lent)) (length first - filled) (went .now) (drop used text) z
 
-    both : onward (used - 0) (take filled out) last ≡ onward (suc (length line)) (lineText (lengthsOn d) x line) (stopped (lineAfter (lengthsOn d) x line) [])
+    both : onward (used - 0) (w .said) last ≡ onward (suc (length line)) (lineText (lengthsOf (d .lent)) x line) (stopped (lineAfter (lengthsOf (d .lent)) x line) [])
     both = sym (went .told) ∙ as-one
 
-    pub whole-text : take filled out ≡ lineText (lengthsOn d) x line
+    pub whole-text : w .said ≡ lineText (lengthsOf (d .lent)) x line
     unfolding onward stopped
     whole-text =
-        sym (append-nil (take filled out))
-        ∙ (ap (λ (t : Text). take filled out ++ t) (sym (silent .said)) ∙ (ap (λ (t : Told). t .said) both ∙ append-nil (lineText (lengthsOn d) x line)))
+        sym (append-nil (w .said))
+        ∙ (ap (λ (t : Text). w .said ++ t) (sym (silent .said)) ∙ (ap (λ (t : Told). t .said) both ∙ append-nil (lineText (lengthsOf (d .lent)) x line)))
 
-    now-is : went .now ≡ lineAfter (lengthsOn d) x line
+    now-is : went .now ≡ lineAfter (lengthsOf (d .lent)) x line
     unfolding onward stopped
     now-is = sym (silent .running) ∙ ap (λ (t : Told). t .running) both
 
-    pub whole-stands : Stands e (lineAfter (lengthsOn d) x line)
+    pub whole-stands : Stands e (lineAfter (lengthsOf (d .lent)) x line)
     whole-stands = subst (Stands e) now-is (went .stands)
 
-    pub whole-kept : lineAfter (lengthsOn d) x line .oks ≡ x .oks → keptOn e ≡ keptOn d
+    pub whole-kept : lineAfter (lengthsOf (d .lent)) x line .oks ≡ x .oks → keptOn e ≡ keptOn d
     whole-kept o = went .refused-kept (ap (λ (y : Running). y .oks) now-is ∙ o)
 
 -- The line that was begun ends in the chunk.
@@ -160,7 +163,7 @@ module _ (r : Runner) (m : Lent) (chunk first : Text) (whole line : Reader) (end
     (h : longest ≤ length first) (here : end ≡ 0 + upTo 10 (drop 0 chunk)) (inside : end < length chunk) (keeps : Extends (r .reader) (take end chunk) whole) (ended : lines.Ended whole line)
     (w : Lines (deskIn r m) (take (line .count) (line .kept)) 0 first 0 (deskOf state started tally lent) mid k f) (z : Ended (take (line .count) (line .kept)) (length first) k f) where
   pub line-room : (end + 1 ≤ length chunk) × (f ≤ length mid)
-  line-room = (omega arith, w .few)
+  line-room = (omega arith, omega (arith, lines-few w, lines-room w))
 
   module _ (s : Runner) (after : Lent) (out : Text) (used filled : ℕ) (rs : Rested (deskOf state started tally lent) chunk (end + 1) mid f s after out used filled) where
     module _ (x : Running) (begun : Text) (q : StandsFor r m x begun) where
@@ -176,29 +179,23 @@ module _ (r : Runner) (m : Lent) (chunk first : Text) (whole line : Reader) (end
       bytes : take (line .count) (line .kept) ≡ looked cut ++ (10 ∷ [])
       bytes = ended .bytes cut (keeps begun (q .reader))
 
-      w2 : Lines (deskIn r m) (looked cut ++ (10 ∷ [])) 0 first 0 (deskOf state started tally lent) mid k f
-      w2 = subst (λ (t : Text). Lines (deskIn r m) t 0 first 0 (deskOf state started tally lent) mid k f) bytes w
-
-      z2 : Ended (looked cut ++ (10 ∷ [])) (length first) k f
-      z2 = subst (λ (t : Text). Ended t (length first) k f) bytes z
-
       no2 : length (looked cut) ≤ upTo 10 (looked cut)
       no2 = up-to-take 81 cut no-feed
 
-      said-is : take f mid ≡ lineText (lengthsOf m) x cut
-      said-is = whole-text (deskIn r m) (looked cut) first _ mid k f w2 z2 no2 h x (desk-stands q) ∙ looked-text (lengthsOf m) x cut
+      said-is : w .said ≡ lineText (lengthsOf m) x cut
+      said-is = whole-text (deskIn r m) _ (looked cut) first _ mid k f bytes w z no2 h x (desk-stands q) ∙ looked-text (lengthsOf m) x cut
 
       after-is : lineAfter (lengthsOf m) x (looked cut) ≡ lineAfter (lengthsOf m) x cut
       after-is = looked-after (lengthsOf m) x cut
 
       stands : Stands (deskOf state started tally lent) (lineAfter (lengthsOf m) x cut)
-      stands = subst (Stands (deskOf state started tally lent)) after-is (whole-stands (deskIn r m) (looked cut) first _ mid k f w2 z2 no2 h x (desk-stands q))
+      stands = subst (Stands (deskOf state started tally lent)) after-is (whole-stands (deskIn r m) _ (looked cut) first _ mid k f bytes w z no2 h x (desk-stands q))
 
       kept-is : lineAfter (lengthsOf m) x cut .oks ≡ x .oks → keptOn (deskOf state started tally lent) ≡ keptOn (deskIn r m)
-      kept-is o = whole-kept (deskIn r m) (looked cut) first _ mid k f w2 z2 no2 h x (desk-stands q) (ap (λ (y : Running). y .oks) after-is ∙ o)
+      kept-is o = whole-kept (deskIn r m) _ (looked cut) first _ mid k f bytes w z no2 h x (desk-stands q) (ap (λ (y : Running). y .oks) after-is ∙ o)
 
       long : f ≡ length (lineText (lengthsOf m) x cut)
-      long = sym (length-take-le f mid (w .few)) ∙ ap length said-is
+      long = omega (arith, w .puts .ends, ap length said-is)
 
       abbrev later : Told
       later = toldTo (lengthsOf m) (length first - length (lineText (lengthsOf m) x cut)) (lineAfter (lengthsOf m) x cut) [] (drop (end + 1) chunk)
@@ -215,22 +212,22 @@ module _ (r : Runner) (m : Lent) (chunk first : Text) (whole line : Reader) (end
           ∙ ap (λ (n : ℕ). onward n (lineText (lengthsOf m) x cut)
           (toldTo (lengthsOf m) (length first - length (lineText (lengthsOf m) x cut)) (lineAfter (lengthsOf m) x cut) [] (drop n chunk))) one)
 
-      rested : Tells (kept state lent) (lineAfter (lengthsOf m) x cut) s after (used - (end + 1)) (drop f (take filled out)) later
+      rested : Tells (kept state lent) (lineAfter (lengthsOf m) x cut) s after (used - (end + 1)) (rs .said) later
       rested =
-          subst (λ (l : Pieces). Tells (kept state lent) (lineAfter (lengthsOf m) x cut) s after (used - (end + 1)) (drop f (take filled out))
+          subst (λ (l : Pieces). Tells (kept state lent) (lineAfter (lengthsOf m) x cut) s after (used - (end + 1)) (rs .said)
           (toldTo l (length first - length (lineText (lengthsOf m) x cut)) (lineAfter (lengthsOf m) x cut) [] (drop (end + 1) chunk))) (w .lengths)
-          (subst (λ (n : ℕ). Tells (kept state lent) (lineAfter (lengthsOf m) x cut) s after (used - (end + 1)) (drop f (take filled out))
+          (subst (λ (n : ℕ). Tells (kept state lent) (lineAfter (lengthsOf m) x cut) s after (used - (end + 1)) (rs .said)
           (toldTo (lengthsOf lent) n (lineAfter (lengthsOf m) x cut) [] (drop (end + 1) chunk))) room-is (rs .tells (lineAfter (lengthsOf m) x cut) stands))
         where
           room-is : length mid - f ≡ length first - length (lineText (lengthsOf m) x cut)
-          room-is = omega (arith, w .same-room, long)
+          room-is = omega (arith, lines-room w, long)
 
-      tells-line : Tells (keptBy r m) x s after used (take filled out) (toldTo (lengthsOf m) (length first) x begun chunk)
+      tells-line : Tells (keptBy r m) x s after used (w .said ++ rs .said) (toldTo (lengthsOf m) (length first) x begun chunk)
       unfolding onward
       tells-line =
-          subst (Tells (keptBy r m) x s after used (take filled out)) (sym told) (
+          subst (Tells (keptBy r m) x s after used (w .said ++ rs .said)) (sym told) (
             omega (arith, rested .0, rs .low),
-            sym (take-append-drop f (take filled out)) ∙ ap₂ (λ (a b : Text). a ++ b) (take-take f filled out (rs .behind) ∙ (rs .head ∙ said-is)) (rested .1),
+            ap₂ (λ (a b : Text). a ++ b) said-is (rested .1),
             rested .2,
             λ o. rested .3 (omega (arith, o, more, later-more)) ∙ kept-is (omega (arith, o, more, later-more)),
           )
@@ -247,15 +244,9 @@ module _ (r : Runner) (m : Lent) (chunk first : Text) (whole line : Reader) (end
           lengths = rs .lengths ∙ w .lengths;
           within = rs .within;
           moves = λ j l. omega (arith, rs .low);
-          same-room = rs .same-room ∙ w .same-room;
-          few = rs .few;
-          rest =
-              rs .rest
-              ∙ (ap (λ (n : ℕ). drop n mid) sum
-              ∙ (sym (drop-drop (filled - f) f mid) ∙ (ap (drop (filled - f)) (w .rest) ∙ (drop-drop (filled - f) f first ∙ ap (λ (n : ℕ). drop n first) (sym sum)))));
+          said = w .said ++ rs .said;
+          fits = omega (arith, length-append (w .said) (rs .said), w .puts .ends, rs .fits, lines-room w);
+          puts = puts-then (omega arith) (w .puts) (rs .puts);
           full = λ j. absurd (omega (arith, h, j));
           tells = tells-line;
         }
-      where
-        sum : filled ≡ f + (filled - f)
-        sum = omega (arith, rs .behind)

@@ -1,12 +1,12 @@
 -- What the functions behind `feed` and `finish` promise each other: a line asked, and lines answered one after the other.
-use Prim.Native.Nat.{ℕ, _-_, _≤_, _<_}
+use Prim.Native.Nat.{ℕ, _+_, _-_, _≤_, _<_}
 use mathlib.Core.Path.{_≡_}
 use mathlib.Core.Bool.{Bool, true, false, cond, _||_}
 use mathlib.Core.List.{[]}
 use lib.Dec.{eqb}
-use lib.ListN.{length, take, drop}
+use lib.ListN.{length, drop}
 use Rattle.text.specs.Parts.{Text, upTo}
-use Rattle.rules.specs.Settings.{Pieces}
+use Rattle.text.specs.Output.{Puts}
 use Rattle.records.specs.declared.Word.{Word}
 use Rattle.records.specs.declared.Word.the-variants.{Reset, Read, Write, Mark, Back, Advance, Counts}
 use Rattle.records.specs.Records.{Asked}
@@ -54,9 +54,6 @@ deskOf state started tally lent = record { state = state; started = started; tal
 abbrev pub keptOn : Desk → Kept
 keptOn d = kept (d .state) (d .lent)
 
-abbrev pub lengthsOn : Desk → Pieces
-lengthsOn d = lengthsOf (d .lent)
-
 -- It stands for a runner of the transcript.
 pub record Stands (d : Desk) (x : Running) : Type 0 where
   pub tally : d .tally ≡ tallyOn x
@@ -67,27 +64,24 @@ pub record Stands (d : Desk) (x : Running) : Type 0 where
 pub record Goes (d : Desk) (x : Running) (room : ℕ) (text : Text) (e : Desk) (used : ℕ) (said : Text) (left-room : ℕ) (rest : Text) : Type 0 where
   pub now : Running
   pub stands : Stands e now
-  pub told : toldTo (lengthsOn d) room x [] text ≡ onward used said (toldTo (lengthsOn d) left-room now [] rest)
+  pub told : toldTo (lengthsOf (d .lent)) room x [] text ≡ onward used said (toldTo (lengthsOf (d .lent)) left-room now [] rest)
   pub more : x .oks ≤ now .oks
   pub refused-kept : now .oks ≡ x .oks → keptOn e ≡ keptOn d
 
 -- The lines that end in a text from a place on, answered into an output from a place on, while there is room for the longest answer.
 pub record Lines (d : Desk) (text : Text) (from : ℕ) (first : Text) (at : ℕ) (e : Desk) (out : Text) (used filled : ℕ) : Type 0 where
-  pub lengths : lengthsOn e ≡ lengthsOn d
+  pub lengths : lengthsOf (e .lent) ≡ lengthsOf (d .lent)
   pub low : from ≤ used
   pub within : used ≤ length text
-  pub same-room : length out ≡ length first
-  pub behind : at ≤ filled
-  pub few : filled ≤ length out
+  pub said : Text
+  pub fits : at + length said ≤ length first
+  pub puts : Puts first at said out filled
   pub moved : used ≡ from → filled ≡ at
-  pub head : take at out ≡ take at first
-  pub rest : drop filled out ≡ drop filled first
-  pub goes : (x : Running) → Stands d x
-      → Goes d x (length first - at) (drop from text) e (used - from) (drop at (take filled out)) (length first - filled) (drop used text)
+  pub goes : (x : Running) → Stands d x → Goes d x (length first - at) (drop from text) e (used - from) said (length first - filled) (drop used text)
 
 -- None is left, or there is no room.
-pub record Ended (text : Text) (room used filled : ℕ) : Type 0 where
-  pub no-line : longest ≤ room - filled → length (drop used text) ≤ upTo 10 (drop used text)
+abbrev pub Ended : (text : Text) (room used filled : ℕ) → Type 0
+Ended text room used filled = longest ≤ room - filled → length (drop used text) ≤ upTo 10 (drop used text)
 
 -- A runner without its line, and its lent memory.
 abbrev pub deskIn : Runner → Lent → Desk
@@ -95,14 +89,11 @@ deskIn r m = deskOf (r .state) (r .started) (r .tally) m
 
 -- The rest of a chunk from a place on, with the output from a place on: its lines, and what is left of it.
 pub record Rested (d : Desk) (text : Text) (from : ℕ) (first : Text) (at : ℕ) (s : Runner) (after : Lent) (out : Text) (used filled : ℕ) : Type 0 where
-  pub lengths : lengthsOf after ≡ lengthsOn d
+  pub lengths : lengthsOf after ≡ lengthsOf (d .lent)
   pub low : from ≤ used
   pub within : used ≤ length text
   pub moves : longest ≤ length first - at → from < length text → from < used
-  pub same-room : length out ≡ length first
-  pub behind : at ≤ filled
-  pub few : filled ≤ length out
-  pub head : take at out ≡ take at first
-  pub rest : drop filled out ≡ drop filled first
-  pub tells : (x : Running) → Stands d x
-      → Tells (keptOn d) x s after (used - from) (drop at (take filled out)) (toldTo (lengthsOn d) (length first - at) x [] (drop from text))
+  pub said : Text
+  pub fits : at + length said ≤ length first
+  pub puts : Puts first at said out filled
+  pub tells : (x : Running) → Stands d x → Tells (keptOn d) x s after (used - from) said (toldTo (lengthsOf (d .lent)) (length first - at) x [] (drop from text))

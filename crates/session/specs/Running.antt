@@ -3,10 +3,11 @@ use Prim.Native.Nat.{ℕ, _+_, _≤_, _<_, min}
 use mathlib.Core.Path.{_≡_}
 use mathlib.Core.Bool.{Bool, true, false}
 use mathlib.Core.Option.{none, some}
-use mathlib.Core.List.{[], _++_}
-use lib.ListN.{length, take, drop}
+use mathlib.Core.List.{[]}
+use lib.ListN.{length}
 use Rattle.text.specs.Parts.{Text, split, upTo}
 use Rattle.text.specs.Lines.{Holds}
+use Rattle.text.specs.Output.{Puts}
 use Rattle.tally.specs.declared.Tally.{Tally}
 use Rattle.tally.specs.Counts.{most, tallyOf}
 use Rattle.store.specs.Shown.{StoreState, blankState, Lent, Kept, kept, lengthsOf, AnswersAs}
@@ -40,44 +41,32 @@ abbrev pub Tells : (before : Kept) (x : Running) (s : Runner) (after : Lent) (us
 Tells before x s after used said t =
     (used ≡ t .used) × (said ≡ t .said) × StandsFor s after (t .running) (t .left) × (t .running .oks ≡ x .oks → keptBy s after ≡ before)
 
--- What a call of `feed` does with a chunk, and with all the room of the output. Less room than the longest answer, and nothing is taken; the
--- output past what is said is untouched.
+-- What a call of `feed` does with a chunk: what is said is put into the output, which is as it was past that. Less room than the longest answer, and
+-- nothing is taken.
 pub record Taken (r : Runner) (before : Lent) (chunk first : Text) (s : Runner) (after : Lent) (out : Text) (used filled : ℕ) : Type 0 where
   pub lengths : lengthsOf after ≡ lengthsOf before
   pub within : used ≤ length chunk
   pub moves : longest ≤ length first → 0 < length chunk → 0 < used
-  pub same-room : length out ≡ length first
-  pub few : filled ≤ length out
-  pub rest : drop filled out ≡ drop filled first
+  pub said : Text
+  pub fits : length said ≤ length first
+  pub puts : Puts first 0 said out filled
   pub full : length first < longest → (s ≡ r) × (after ≡ before) × (used ≡ 0) × (filled ≡ 0)
   pub tells : (x : Running) (begun : Text) → StandsFor r before x begun
-      → Tells (keptBy r before) x s after used (take filled out) (toldTo (lengthsOf before) (length first) x begun chunk)
-
--- Some bytes of a chunk taken: what is said to them, and then to what is left of the chunk and whatever follows it, is what the transcript
--- says to all.
-pub record Continues (r : Runner) (before : Lent) (chunk : Text) (s : Runner) (after : Lent) (said : Text) (used : ℕ) : Type 0 where
-  pub lengths : lengthsOf after ≡ lengthsOf before
-  pub within : used ≤ length chunk
-  pub goes-on : (x : Running) (begun : Text) → StandsFor r before x begun
-      → (y : Running) × (left : Text) × StandsFor s after y left
-      × ((more : Text)
-      → answersTo (lengthsOf before) x (split 10 begun (chunk ++ more))
-      ≡ said ++ answersTo (lengthsOf before) y (split 10 left (drop used chunk ++ more)))
+      → Tells (keptBy r before) x s after used said (toldTo (lengthsOf before) (length first) x begun chunk)
 
 -- The end of input, within a line that was begun: what is said then ends the transcript.
 abbrev pub Ends : Runner → Lent → (said : Text) → Type 0
 Ends r m said = (x : Running) (begun : Text) → StandsFor r m x begun → said ≡ answersTo (lengthsOf m) x (split 10 begun [])
 
 -- The end of input: nothing is done with an output that has not room for the longest answer and the longest line of the tally; else the answer to
--- the line that was begun and the tally are put, the output past them is untouched, and the lent memory is what that line leaves: where it was not
--- accepted, what it was.
+-- the line that was begun and the tally are put, and the lent memory is what that line leaves: where it was not accepted, what it was.
 pub record Finishes (r : Runner) (before : Lent) (first : Text) (after : Lent) (out : Text) (end : ℕ) : Type 0 where
   pub lengths : lengthsOf after ≡ lengthsOf before
-  pub same-room : length out ≡ length first
-  pub few : end ≤ length out
-  pub rest : drop end out ≡ drop end first
+  pub said : Text
+  pub fits : length said ≤ length first
+  pub puts : Puts first 0 said out end
   pub full : length first < longest + longestEnd → (end ≡ 0) × (out ≡ first) × (after ≡ before)
-  pub ends : longest + longestEnd ≤ length first → Ends r before (take end out)
+  pub ends : longest + longestEnd ≤ length first → Ends r before said
   pub leaves : longest + longestEnd ≤ length first → (x : Running) (begun : Text) → StandsFor r before x begun
       → (state : StoreState) × (started : Bool) × Stored started (kept state after) (lineAfter (lengthsOf before) x begun .store)
   pub refused-kept : longest + longestEnd ≤ length first → (x : Running) (begun : Text) → StandsFor r before x begun → lineAfter (lengthsOf before) x begun .oks ≡ x .oks → after ≡ before

@@ -58,18 +58,15 @@ module _ (lengths : Pieces) where
   unstartedStore none = none
   unstartedStore (some asked) = cond (eqb (askedRefusal lengths asked) 0) (some (freshModel asked)) none
 
-  abbrev pub modelRefusal : Model → Call → ℕ
-  modelRefusal m c = plainRefusal lengths (m .plain) c
-
   -- The answer to a record's call,
   unfoldable pub answerTo : Store → Call → Answer
   answerTo none c = outcome (unstartedRefusal (resetIn c))
-  answerTo (some m) c = modelAnswer (modelRefusal m c) m c
+  answerTo (some m) c = modelAnswer (plainRefusal lengths (m .plain) c) m c
 
   -- and the store after it: "A refused call .. changes nothing", so that a refused reset leaves the old store, or none.
   unfoldable pub storeAfter : Store → Call → Store
   storeAfter none c = unstartedStore (resetIn c)
-  storeAfter (some m) c = some (modelStep (modelRefusal m c) m c)
+  storeAfter (some m) c = some (modelStep (plainRefusal lengths (m .plain) c) m c)
 
   -- The answer to a line and the store after it: 1 and 2 come first, then 3 and the call's own. "Each is given if its condition holds and no
   -- earlier one does, never otherwise."
@@ -134,12 +131,8 @@ unfoldable pub asksTooMuch : Asked → Bool
 asksTooMuch (turned-down n) = false
 asksTooMuch (asks w ns) = pastRoom (resetIn (callOf w ns))
 
--- whether it is answered with 6,
-unfoldable pub getsSix : Running → Text → Bool
-getsSix x [] = false
-getsSix x (b ∷ bs) = eqb (numberIn (lineAnswer runnerLent (x .store) (parsed (b ∷ bs)))) 6
-
--- and that these are the same, line after line.
+-- and that it is answered with 6 exactly then, line after line.
 abbrev pub SixExactly : Running → List Text → Type 0
 SixExactly x [] = Unit {0}
-SixExactly x (line ∷ lines) = (getsSix x line ≡ asksTooMuch (parsed line)) × SixExactly (lineAfter runnerLent x line) lines
+SixExactly x (line ∷ lines) =
+    (eqb (numberIn (lineAnswer runnerLent (x .store) (parsed line))) 6 ≡ asksTooMuch (parsed line)) × SixExactly (lineAfter runnerLent x line) lines

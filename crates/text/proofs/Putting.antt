@@ -62,6 +62,9 @@ pub puts-length : (before : Text) (at : ℕ) (text after : Text) (behind : ℕ) 
     → length after ≡ length before
 puts-length before at text after behind h p = ap length (p .bytes) ∙ length-paste before at text (length text) h (omega arith)
 
+pub puts-few : (before : Text) (at : ℕ) (text after : Text) (behind : ℕ) → at + length text ≤ length before → Puts before at text after behind → behind ≤ length after
+puts-few before at text after behind h p = omega (arith, p .ends, puts-length before at text after behind h p)
+
 -- No text changes nothing; one text after another is both.
 pub puts-none : (before : Text) (at : ℕ) → Puts before at [] before at
 puts-none before at = record { ends = omega arith; bytes = paste-zero before at [] }

@@ -90,8 +90,9 @@ same-length-6 : tie.Need-same-length-6
 same-length-6 c = search needs
 
 returns : tie.Need-returns
-unfolding answerOf
-returns c = called-reset _ _ _ _ _ _ _ _ _ _ _ (c .before .before .before .before .before .before .before .before .before .before .before .before .before .before .enum-told .given .1) (c .before .before .before .before .before .before .before .before .before .before .before .before .before .before .before .before .before .before .number .ensures) (c .before .before .before .before .before .before .before .before .before .before .before .before .before .before .before .before .before .number2 .ensures) (c .before .before .before .before .before .before .before .before .before .before .before .before .before .before .before .before .number3 .ensures) (c .before .before .before .before .before .before .before .reset .ensures .0) (c .outcome-reply .ensures .0) (c .outcome-reply .ensures .1)
+returns c =
+    let d : tie.After-reset = search in let e : tie.After-enum-told = search in
+    search (called-reset, e .enum-told .given .1, e .before .before .before .before .number .ensures, e .before .before .before .number2 .ensures, e .before .before .number3 .ensures, d .reset .ensures .0, c .outcome-reply .ensures .0, c .outcome-reply .ensures .1)
 
 same-length-7 : tie.Need-same-length-7
 same-length-7 c = search needs
@@ -113,7 +114,7 @@ same-length-12 c = search needs
 
 returns-2 : tie.Need-returns-2
 unfolding answerOf
-returns-2 c = called-read _ _ _ _ _ _ _ (c .before .before .before .before .before .before .before .before .enum-told2 .given .1) (c .before .before .before .before .before .before .before .before .before .before .before .before .number .ensures) (c .before .before .before .before .before .before .before .before .before .before .before .number2 .ensures) (c .before .read .ensures .0)
+returns-2 c = search called-read
 
 same-length-13 : tie.Need-same-length-13
 same-length-13 c = search needs
@@ -134,8 +135,9 @@ same-length-18 : tie.Need-same-length-18
 same-length-18 c = search needs
 
 returns-3 : tie.Need-returns-3
-unfolding answerOf
-returns-3 c = called-write _ _ _ _ _ _ _ _ _ _ _ (c .before .before .before .before .before .before .before .before .before .before .before .before .before .before .before .before .enum-told3 .given .1) (c .before .before .before .before .before .before .before .before .before .before .before .before .before .before .before .before .before .before .before .before .number .ensures) (c .before .before .before .before .before .before .before .before .before .before .before .before .before .before .before .before .before .before .before .number2 .ensures) (c .before .before .before .before .before .before .before .before .before .before .before .before .before .before .before .before .before .before .number3 .ensures) (c .before .before .before .before .before .before .before .before .before .write .ensures .0) (c .outcome-reply2 .ensures .0) (c .outcome-reply2 .ensures .1)
+returns-3 c =
+    let d : tie.After-write = search in let e : tie.After-enum-told3 = search in
+    search (called-write, e .enum-told3 .given .1, e .before .before .before .before .number .ensures, e .before .before .before .number2 .ensures, e .before .before .number3 .ensures, d .write .ensures .0, c .outcome-reply2 .ensures .0, c .outcome-reply2 .ensures .1)
 
 same-length-19 : tie.Need-same-length-19
 same-length-19 c = search needs
@@ -156,8 +158,7 @@ same-length-24 : tie.Need-same-length-24
 same-length-24 c = search needs
 
 returns-4 : tie.Need-returns-4
-unfolding answerOf
-returns-4 c = called-mark _ _ _ _ _ _ _ _ (c .before .before .before .before .before .before .before .before .enum-told4 .given .1) (c .before .mark .ensures .0) (c .outcome-reply3 .ensures .0) (c .outcome-reply3 .ensures .1)
+returns-4 c = let e : tie.After-enum-told4 = search in search (called-mark, e .enum-told4 .given .1, c .before .mark .ensures .0, c .outcome-reply3 .ensures .0, c .outcome-reply3 .ensures .1)
 
 same-length-25 : tie.Need-same-length-25
 same-length-25 c = search needs
@@ -178,8 +179,9 @@ same-length-30 : tie.Need-same-length-30
 same-length-30 c = search needs
 
 returns-5 : tie.Need-returns-5
-unfolding answerOf
-returns-5 c = called-back _ _ _ _ _ _ _ _ _ (c .before .before .before .before .before .before .before .before .before .before .before .before .enum-told5 .given .1) (c .before .before .before .before .before .before .before .before .before .before .before .before .before .before .before .before .number .ensures) (c .before .before .before .before .before .rollback .ensures .0) (c .outcome-reply4 .ensures .0) (c .outcome-reply4 .ensures .1)
+returns-5 c =
+    let d : tie.After-rollback = search in let e : tie.After-enum-told5 = search in
+    search (called-back, e .enum-told5 .given .1, e .before .before .before .before .number .ensures, d .rollback .ensures .0, c .outcome-reply4 .ensures .0, c .outcome-reply4 .ensures .1)
 
 same-length-31 : tie.Need-same-length-31
 same-length-31 c = search needs
@@ -200,8 +202,9 @@ same-length-36 : tie.Need-same-length-36
 same-length-36 c = search needs
 
 returns-6 : tie.Need-returns-6
-unfolding answerOf
-returns-6 c = called-advance _ _ _ _ _ _ _ _ _ (c .before .before .before .before .before .before .before .before .before .before .before .before .before .before .enum-told6 .given .1) (c .before .before .before .before .before .before .before .before .before .before .before .before .before .before .before .before .before .before .number .ensures) (c .before .before .before .before .before .before .before .advance .ensures .0) (c .outcome-reply5 .ensures .0) (c .outcome-reply5 .ensures .1)
+returns-6 c =
+    let d : tie.After-advance = search in let e : tie.After-enum-told6 = search in
+    search (called-advance, e .enum-told6 .given .1, e .before .before .before .before .number .ensures, d .advance .ensures .0, c .outcome-reply5 .ensures .0, c .outcome-reply5 .ensures .1)
 
 same-length-37 : tie.Need-same-length-37
 same-length-37 c = search needs
@@ -223,7 +226,7 @@ same-length-42 c = search needs
 
 returns-7 : tie.Need-returns-7
 unfolding answerOf
-returns-7 c = called-counts _ _ _ _ _ (c .before .before .before .before .before .before .before .enum-told7 .given .1) (c .counts .ensures)
+returns-7 c = search called-counts
 
 pub call-spec : {M : Type 1} → statement M
 call-spec =

@@ -1,8 +1,7 @@
 -- `replies::put_answer` meets its contract. Assumes nothing.
 use native.Mathlib.Omega.{arith}
 use borrow.Author.Needs.{needs}
-use Rattle.text.proofs.Putting.{puts-then, puts-same}
-use Rattle.replies.proofs.Lines.{number-ends, values-ends, line-of-no, line-of-ok}
+use Rattle.replies.proofs.Lines.{number-ends, values-ends, puts-no, puts-ok}
 use Rattle.replies.proofs.put_answer.Statement.{statement}
 use Rattle.replies.proofs.put_answer.Tie as tie
 
@@ -25,11 +24,7 @@ same-length : tie.Need-same-length
 same-length c = search needs
 
 returns : tie.Need-returns
-returns c =
-    puts-same _ _ _ _ _ _
-    (line-of-no _ _ (c .before .before .before .before .before .before .before .before .before .before .before .before .before .before .if1 .taken))
-    (puts-then (omega arith) (c .before .before .before .before .before .before .before .before .before .before .before .put .ensures)
-    (puts-then (omega arith) (c .before .before .before .before .before .before .before .put-number .ensures) (c .before .before .put2 .ensures)))
+returns c = search puts-no
 
 slice-aggregate-put-3 : tie.Need-slice-aggregate-put-3
 slice-aggregate-put-3 c = search needs
@@ -50,11 +45,7 @@ same-length-2 : tie.Need-same-length-2
 same-length-2 c = search needs
 
 returns-2 : tie.Need-returns-2
-returns-2 c =
-    puts-same _ _ _ _ _ _
-    (line-of-ok _ _ (c .before .before .before .before .before .before .before .before .before .before .before .before .before .before .if1 .left))
-    (puts-then (omega arith) (c .before .before .before .before .before .before .before .before .before .before .before .put3 .ensures)
-    (puts-then (omega arith) (c .before .before .before .before .before .before .before .put-shown .ensures) (c .before .before .put4 .ensures)))
+returns-2 c = search puts-ok
 
 pub put-answer-spec : {M : Type 1} → statement M
 put-answer-spec =

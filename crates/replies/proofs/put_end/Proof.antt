@@ -1,9 +1,7 @@
 -- `replies::put_end` meets its contract. Assumes nothing.
 use native.Mathlib.Omega.{arith}
 use borrow.Author.Needs.{needs}
-use Rattle.text.proofs.Putting.{puts-then}
-use Rattle.replies.specs.Answers.{endLine}
-use Rattle.replies.proofs.Lines.{number-ends}
+use Rattle.replies.proofs.Lines.{number-ends, puts-end}
 use Rattle.replies.proofs.put_end.Statement.{statement}
 use Rattle.replies.proofs.put_end.Tie as tie
 
@@ -23,24 +21,13 @@ slice-aggregate-put-2 : tie.Need-slice-aggregate-put-2
 slice-aggregate-put-2 c = search needs
 
 put-requires-2 : tie.Need-put-requires-2
-put-requires-2 c κs =
-    omega (
-      arith,
-      number-ends _ (c .before .before .before .before .before .before .before .before .put-number .ensures),
-      number-ends _ (c .before .before .before .before .put-number2 .ensures),
-    )
+put-requires-2 c κs = let p : tie.After-put-number = search in omega (arith, number-ends _ (p .put-number .ensures), number-ends _ (c .before .before .before .before .put-number2 .ensures))
 
 same-length : tie.Need-same-length
 same-length c = search needs
 
 returns : tie.Need-returns
-unfolding endLine
-returns c =
-    puts-then (omega arith) (c .before .before .before .before .before .before .before .before .before .before .before .before .before .before .before .put .ensures)
-    (puts-then (omega arith) (c .before .before .before .before .before .before .before .before .before .before .before .put-number .ensures)
-    (puts-then (omega (arith, number-ends _ (c .before .before .before .before .before .before .before .before .before .before .before .put-number .ensures)))
-    (c .before .before .before .before .before .before .before .put-number2 .ensures)
-    (c .before .before .put2 .ensures)))
+returns c = search puts-end
 
 pub put-end-spec : {M : Type 1} → statement M
 put-end-spec =

@@ -48,8 +48,8 @@ same-length c = search needs
 returns-2 : tie.Need-returns-2
 unfolding valuesText answerOf
 returns-2 c =
-    rw (c .before .before .before .before .before .before .before .before .before .shown .given .1)
-    (puts-then (omega arith) (c .before .before .before .before .before .before .put-number .ensures) (c .before .before .put-origin .ensures))
+    let s : tie.After-shown = search in
+    rw (s .shown .given .1) (puts-then (omega arith) (c .before .before .before .before .before .before .put-number .ensures) (c .before .before .put-origin .ensures))
 
 same-length-2 : tie.Need-same-length-2
 same-length-2 c = search needs
@@ -57,8 +57,8 @@ same-length-2 c = search needs
 returns-3 : tie.Need-returns-3
 unfolding valuesText answerOf
 returns-3 c =
-    rw (c .before .before .before .before .before .before .before .before .before .shown2 .given .1)
-    (puts-then (omega arith) (c .before .before .before .before .before .before .put-number2 .ensures) (c .before .before .put-number3 .ensures))
+    let s : tie.After-shown2 = search in
+    rw (s .shown2 .given .1) (puts-then (omega arith) (c .before .before .before .before .before .before .put-number2 .ensures) (c .before .before .put-number3 .ensures))
 
 pub put-shown-spec : {M : Type 1} → statement M
 put-shown-spec =

@@ -1,13 +1,13 @@
 -- `runner::answer_chunk` meets its contract. Assumes nothing.
 use borrow.Author.Needs.{needs}
 use native.Mathlib.Omega.{arith}
-use mathlib.Core.Path.{refl, _∙_, ap}
-use mathlib.Core.Bool.{false≢true}
+use mathlib.Core.Path.{_∙_, ap}
 use Prim.Native.Nat.{_-_}
 use lib.ListN.{length}
 use Rattle.rules.specs.Settings.{Pieces}
 use Rattle.store.specs.Shown.{lentOf}
-use Rattle.runner.proofs.Going.{Going, going-start, going-within, going-less, going-next, going-end}
+use Rattle.session.proofs.Taking.{taken-room, taken-few}
+use Rattle.runner.proofs.Going.{Going, going-start, going-fits, going-less, going-next, answers-cut, answers-all}
 use Rattle.runner.proofs.answer_chunk.Statement.{statement}
 use Rattle.runner.proofs.answer_chunk.Tie as tie
 
@@ -35,40 +35,45 @@ feed-requires : tie.Need-feed-requires Inv-loop μ-loop
 feed-requires c κs = search needs
 
 add-from : tie.Need-add-from Inv-loop μ-loop
-add-from c = omega (arith, going-within (c .before .before .before .before .before .before .before .before .before .before .before .before .before .before .before .before .before .before .before .before .before .before .before .before .before .before .loop .inv) _ _ _ _ _ (c .before .before .before .before .before .before .before .before .before .before .before .before .before .before .before .before .feed .ensures), (c .before .before .before .before .before .before .before .before .before .before .before .before .before .before .before .before .before .before .before .before .before .before .before .before .before .before .before .before .before .before .before .before .before .before .before .good .1 .1 .1 .1 .1 .1 .1 .0 .0))
+add-from c =
+    let f : tie.After-feed Inv-loop μ-loop = search in let t : tie.In-loop Inv-loop μ-loop = search in
+    let l = t .before .before .before .before .before in
+    search (going-fits, t .before .loop .inv, f .feed .ensures, l .before .before .before .before .before .good .1 .1 .1 .1 .1 .1 .1 .0 .0)
 
 write-out-requires : tie.Need-write-out-requires Inv-loop μ-loop
-write-out-requires c κs = c .before .before .before .before .before .before .before .before .before .before .before .before .before .before .before .before .before .feed .ensures .few
-
-same-length : tie.Need-same-length Inv-loop μ-loop
-same-length c = ap (λ (p : Pieces). p .archive) (c .before .before .before .before .before .before .before .before .before .before .before .before .before .before .before .before .before .before .before .feed .ensures .lengths ∙ c .before .before .before .before .before .before .before .before .before .before .before .before .before .before .before .before .before .before .before .before .before .before .before .before .before .before .before .before .before .loop .inv .lengths)
-
-same-length-2 : tie.Need-same-length-2 Inv-loop μ-loop
-same-length-2 c = ap (λ (p : Pieces). p .pool) (c .before .before .before .before .before .before .before .before .before .before .before .before .before .before .before .before .before .before .before .feed .ensures .lengths ∙ c .before .before .before .before .before .before .before .before .before .before .before .before .before .before .before .before .before .before .before .before .before .before .before .before .before .before .before .before .before .loop .inv .lengths)
-
-same-length-3 : tie.Need-same-length-3 Inv-loop μ-loop
-same-length-3 c = ap (λ (p : Pieces). p .groups) (c .before .before .before .before .before .before .before .before .before .before .before .before .before .before .before .before .before .before .before .feed .ensures .lengths ∙ c .before .before .before .before .before .before .before .before .before .before .before .before .before .before .before .before .before .before .before .before .before .before .before .before .before .before .before .before .before .loop .inv .lengths)
-
-same-length-4 : tie.Need-same-length-4 Inv-loop μ-loop
-same-length-4 c = ap (λ (p : Pieces). p .table) (c .before .before .before .before .before .before .before .before .before .before .before .before .before .before .before .before .before .before .before .feed .ensures .lengths ∙ c .before .before .before .before .before .before .before .before .before .before .before .before .before .before .before .before .before .before .before .before .before .before .before .before .before .before .before .before .before .loop .inv .lengths)
-
-same-length-5 : tie.Need-same-length-5 Inv-loop μ-loop
-same-length-5 c = ap (λ (p : Pieces). p .owners) (c .before .before .before .before .before .before .before .before .before .before .before .before .before .before .before .before .before .before .before .feed .ensures .lengths ∙ c .before .before .before .before .before .before .before .before .before .before .before .before .before .before .before .before .before .before .before .before .before .before .before .before .before .before .before .before .before .loop .inv .lengths)
-
-same-length-6 : tie.Need-same-length-6 Inv-loop μ-loop
-same-length-6 c = ap (λ (p : Pieces). p .history) (c .before .before .before .before .before .before .before .before .before .before .before .before .before .before .before .before .before .before .before .feed .ensures .lengths ∙ c .before .before .before .before .before .before .before .before .before .before .before .before .before .before .before .before .before .before .before .before .before .before .before .before .before .before .before .before .before .loop .inv .lengths)
-
-same-length-7 : tie.Need-same-length-7 Inv-loop μ-loop
-same-length-7 c = c .before .before .before .before .before .before .before .before .before .before .before .before .before .before .before .before .before .before .before .feed .ensures .same-room ∙ c .before .before .before .before .before .before .before .before .before .before .before .before .before .before .before .before .before .before .before .before .before .before .before .before .before .before .before .before .before .loop .inv .same-room
+write-out-requires c κs = let f : tie.After-feed Inv-loop μ-loop = search in taken-few (f .feed .ensures)
 
 returns : tie.Need-returns Inv-loop μ-loop
-returns c = record { lengths = c .before .before .before .before .before .before .before .before .before .before .before .before .before .before .before .before .before .before .before .feed .ensures .lengths ∙ c .before .before .before .before .before .before .before .before .before .before .before .before .before .before .before .before .before .before .before .before .before .before .before .before .before .before .before .before .before .loop .inv .lengths; more-is = refl; fed = λ e. absurd (false≢true e) }
+returns c = let f : tie.After-feed Inv-loop μ-loop = search in let t : tie.In-loop Inv-loop μ-loop = search in search (answers-cut, t .before .loop .inv, f .feed .ensures)
+
+same-length : tie.Need-same-length Inv-loop μ-loop
+same-length c = ap (λ (p : Pieces). p .archive) (returns c .lengths)
+
+same-length-2 : tie.Need-same-length-2 Inv-loop μ-loop
+same-length-2 c = ap (λ (p : Pieces). p .pool) (returns c .lengths)
+
+same-length-3 : tie.Need-same-length-3 Inv-loop μ-loop
+same-length-3 c = ap (λ (p : Pieces). p .groups) (returns c .lengths)
+
+same-length-4 : tie.Need-same-length-4 Inv-loop μ-loop
+same-length-4 c = ap (λ (p : Pieces). p .table) (returns c .lengths)
+
+same-length-5 : tie.Need-same-length-5 Inv-loop μ-loop
+same-length-5 c = ap (λ (p : Pieces). p .owners) (returns c .lengths)
+
+same-length-6 : tie.Need-same-length-6 Inv-loop μ-loop
+same-length-6 c = ap (λ (p : Pieces). p .history) (returns c .lengths)
+
+same-length-7 : tie.Need-same-length-7 Inv-loop μ-loop
+same-length-7 c = let f : tie.After-feed Inv-loop μ-loop = search in let t : tie.In-loop Inv-loop μ-loop = search in taken-room (f .feed .ensures) ∙ t .before .loop .inv .same-room
 
 loop-less : tie.Need-loop-less Inv-loop μ-loop
-loop-less c = going-less (c .before .before .before .before .before .before .before .before .before .before .before .before .before .before .before .before .before .before .before .before .before .before .before .before .before .before .before .before .before .loop .inv) _ _ _ _ _ (c .before .before .before .before .before .before .before .before .before .before .before .before .before .before .before .before .before .before .before .feed .ensures) (omega (arith, (c .before .before .before .before .before .before .before .before .before .before .before .before .before .before .before .before .before .before .before .before .before .before .before .before .before .before .before .before .before .loop .inv .same-room), (c .before .before .before .before .before .before .before .before .before .before .before .before .before .before .before .before .before .before .before .before .before .before .before .before .before .before .before .before .before .before .before .before .before .before .before .before .before .before .pre))) (c .before .before .before .before .before .before .before .before .before .before .before .before .before .before .before .before .before .before .before .before .before .before .before .before .before .before .before .before .loop-test .taken)
+loop-less c =
+    let f : tie.After-feed Inv-loop μ-loop = search in let t : tie.In-loop Inv-loop μ-loop = search in let s : tie.Start Inv-loop μ-loop = search in
+    search (going-less, t .before .loop .inv, f .feed .ensures, s .pre, t .loop-test .taken)
 
 loop-again : tie.Need-loop-again Inv-loop μ-loop
-loop-again c = going-next (c .before .before .before .before .before .before .before .before .before .before .before .before .before .before .before .before .before .before .before .before .before .before .before .before .before .before .before .before .before .loop .inv) _ _ _ _ _ (c .before .before .before .before .before .before .before .before .before .before .before .before .before .before .before .before .before .before .before .feed .ensures)
+loop-again c = let f : tie.After-feed Inv-loop μ-loop = search in let t : tie.In-loop Inv-loop μ-loop = search in search (going-next, t .before .loop .inv, f .feed .ensures)
 
 same-length-8 : tie.Need-same-length-8 Inv-loop μ-loop
 same-length-8 c = ap (λ (p : Pieces). p .archive) (c .before .loop .inv .lengths)
@@ -92,7 +97,7 @@ same-length-14 : tie.Need-same-length-14 Inv-loop μ-loop
 same-length-14 c = c .before .loop .inv .same-room
 
 returns-2 : tie.Need-returns-2 Inv-loop μ-loop
-returns-2 c = record { lengths = c .before .loop .inv .lengths; more-is = refl; fed = λ e. going-end (c .before .loop .inv) (c .loop-test .left) }
+returns-2 c = search answers-all
 
 pub answer-chunk-spec : {M : Type 1} → statement M
 answer-chunk-spec =

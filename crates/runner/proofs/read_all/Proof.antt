@@ -23,40 +23,44 @@ loop-holds : tie.Need-loop-holds Inv-loop μ-loop
 loop-holds c = underway-start _ _ _
 
 read-some-requires : tie.Need-read-some-requires Inv-loop μ-loop
-read-some-requires c κs = omega (arith, c .before .before .before .before .before .before .before .before .loop .inv .same-room, c .before .before .before .before .before .before .before .before .before .before .before .before .before .before .before .before .before .pre .0)
-
-same-length : tie.Need-same-length Inv-loop μ-loop
-same-length c = c .before .before .before .before .before .before .before .before .before .before .before .before .before .before .before .before .archive .given ∙ ap (λ (p : Pieces). p .archive) (c .before .before .before .before .before .before .before .before .before .before .before .before .before .before .before .before .before .before .before .before .before .before .before .before .before .before .loop .inv .lengths)
-
-same-length-2 : tie.Need-same-length-2 Inv-loop μ-loop
-same-length-2 c = c .before .before .before .before .before .before .before .before .before .before .before .before .before .before .pool .given ∙ ap (λ (p : Pieces). p .pool) (c .before .before .before .before .before .before .before .before .before .before .before .before .before .before .before .before .before .before .before .before .before .before .before .before .before .before .loop .inv .lengths)
-
-same-length-3 : tie.Need-same-length-3 Inv-loop μ-loop
-same-length-3 c = c .before .before .before .before .before .before .before .before .before .before .before .before .groups .given ∙ ap (λ (p : Pieces). p .groups) (c .before .before .before .before .before .before .before .before .before .before .before .before .before .before .before .before .before .before .before .before .before .before .before .before .before .before .loop .inv .lengths)
-
-same-length-4 : tie.Need-same-length-4 Inv-loop μ-loop
-same-length-4 c = c .before .before .before .before .before .before .before .before .before .before .table .given ∙ ap (λ (p : Pieces). p .table) (c .before .before .before .before .before .before .before .before .before .before .before .before .before .before .before .before .before .before .before .before .before .before .before .before .before .before .loop .inv .lengths)
-
-same-length-5 : tie.Need-same-length-5 Inv-loop μ-loop
-same-length-5 c = c .before .before .before .before .before .before .before .before .owners .given ∙ ap (λ (p : Pieces). p .owners) (c .before .before .before .before .before .before .before .before .before .before .before .before .before .before .before .before .before .before .before .before .before .before .before .before .before .before .loop .inv .lengths)
-
-same-length-6 : tie.Need-same-length-6 Inv-loop μ-loop
-same-length-6 c = c .before .before .before .before .before .before .history .given ∙ ap (λ (p : Pieces). p .history) (c .before .before .before .before .before .before .before .before .before .before .before .before .before .before .before .before .before .before .before .before .before .before .before .before .before .before .loop .inv .lengths)
-
-same-length-7 : tie.Need-same-length-7 Inv-loop μ-loop
-same-length-7 c = c .before .before .before .before .out .given ∙ c .before .before .before .before .before .before .before .before .before .before .before .before .before .before .before .before .before .before .before .before .before .before .before .before .before .before .loop .inv .same-room
+read-some-requires c κs = let l : tie.At-loop Inv-loop μ-loop = search in let s : tie.Start Inv-loop μ-loop = search in omega (arith, l .loop .inv .same-room, s .pre .0)
 
 returns : tie.Need-returns Inv-loop μ-loop
-returns c = reads-all (c .before .before .before .before .before .before .before .before .before .before .before .before .before .before .before .before .before .before .before .before .before .before .before .before .before .before .loop .inv) (c .before .before .before .before .before .before .before .before .before .before .before .before .before .before .before .before .before .read-some .ensures) (c .if1 .taken) (c .before .before .before .before .before .before .before .before .before .before .before .before .before .before .before .before .before .before .before .before .before .before .before .before .before .before .before .start .ensures _)
+returns c =
+    let r : tie.After-read-some Inv-loop μ-loop = search in let t : tie.In-loop Inv-loop μ-loop = search in
+    search (reads-all, t .before .loop .inv, r .read-some .ensures, c .if1 .taken, t .before .before .start .ensures)
+
+same-length : tie.Need-same-length Inv-loop μ-loop
+same-length c = ap (λ (p : Pieces). p .archive) (returns c .lengths)
+
+same-length-2 : tie.Need-same-length-2 Inv-loop μ-loop
+same-length-2 c = ap (λ (p : Pieces). p .pool) (returns c .lengths)
+
+same-length-3 : tie.Need-same-length-3 Inv-loop μ-loop
+same-length-3 c = ap (λ (p : Pieces). p .groups) (returns c .lengths)
+
+same-length-4 : tie.Need-same-length-4 Inv-loop μ-loop
+same-length-4 c = ap (λ (p : Pieces). p .table) (returns c .lengths)
+
+same-length-5 : tie.Need-same-length-5 Inv-loop μ-loop
+same-length-5 c = ap (λ (p : Pieces). p .owners) (returns c .lengths)
+
+same-length-6 : tie.Need-same-length-6 Inv-loop μ-loop
+same-length-6 c = ap (λ (p : Pieces). p .history) (returns c .lengths)
+
+same-length-7 : tie.Need-same-length-7 Inv-loop μ-loop
+same-length-7 c = let r : tie.After-read-some Inv-loop μ-loop = search in let t : tie.In-loop Inv-loop μ-loop = search in c .before .before .before .before .out .given ∙ t .before .loop .inv .same-room
 
 sub-turns : tie.Need-sub-turns Inv-loop μ-loop
-sub-turns c = omega (arith, c .before .before .before .before .before .before .before .before .before .before .before .before .before .before .before .before .before .before .before .before .before .before .before .before .before .loop-test .taken)
+sub-turns c = let r : tie.After-read-some Inv-loop μ-loop = search in let t : tie.In-loop Inv-loop μ-loop = search in omega (arith, t .loop-test .taken)
 
 loop-less : tie.Need-loop-less Inv-loop μ-loop
-loop-less c = omega (arith, c .before .before .before .before .before .before .before .before .before .before .before .before .before .before .before .before .before .before .before .before .before .before .before .before .before .loop-test .taken)
+loop-less c = let r : tie.After-read-some Inv-loop μ-loop = search in let t : tie.In-loop Inv-loop μ-loop = search in omega (arith, t .loop-test .taken)
 
 loop-again : tie.Need-loop-again Inv-loop μ-loop
-loop-again c = underway-next (c .before .before .before .before .before .before .before .before .before .before .before .before .before .before .before .before .before .before .before .before .before .before .before .before .before .before .loop .inv) (c .before .before .before .before .before .before .before .before .before .before .before .before .before .before .before .before .before .read-some .ensures) _ (c .before .before .before .before .out .given) (c .if1 .left)
+loop-again c =
+    let r : tie.After-read-some Inv-loop μ-loop = search in let t : tie.In-loop Inv-loop μ-loop = search in
+    search (underway-next, t .before .loop .inv, r .read-some .ensures, c .before .before .before .before .out .given, c .if1 .left)
 
 same-length-8 : tie.Need-same-length-8 Inv-loop μ-loop
 same-length-8 c = ap (λ (p : Pieces). p .archive) (c .before .loop .inv .lengths)

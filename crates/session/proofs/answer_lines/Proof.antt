@@ -1,13 +1,13 @@
 -- `session::answer_lines` meets its contract. Assumes nothing.
-use Prim.Native.Nat.{_-_}
+use Prim.Native.Nat.{_+_, _-_, _^_, _<_}
 use native.Mathlib.Omega.{arith}
 use borrow.Author.Needs.{needs}
-use mathlib.Core.Path.{refl, ap}
+use mathlib.Core.Path.{ap}
 use lib.ListN.{length}
 use Rattle.rules.specs.Settings.{Pieces}
 use Rattle.store.specs.Shown.{lentOf}
 use Rattle.session.specs.Between.{deskOf, Lines}
-use Rattle.session.proofs.Lines.{lines-start, lines-stop, lines-full}
+use Rattle.session.proofs.Lines.{lines-start, lines-room, lines-few, lines-stop}
 use Rattle.session.proofs.Stepping.{turn-room, turn-less, turn-empty, turn-down, turn-call}
 use Rattle.session.proofs.answer_lines.Statement.{statement}
 use Rattle.session.proofs.answer_lines.Tie as tie
@@ -20,11 +20,15 @@ abbrev μ-loop : tie.MeasureT-loop
 μ-loop begun archive₀ pool₀ groups₀ table₀ owners₀ history₀ chunk from out₀ at count room state₀ started₀ tally₀ used₀ filled₀ archive pool groups table owners history out state started tally used filled =
     length chunk - used
 
+-- past a line's end
+end-more : (e : tie.Else1 Inv-loop μ-loop) → e .before .part-end .result + 1 < 2 ^ 64
+end-more e = let s : tie.Start Inv-loop μ-loop = search in omega (arith, s .good)
+
 loop-holds : tie.Need-loop-holds Inv-loop μ-loop
 loop-holds c = lines-start _ _ _ _ _ (search needs) (search needs)
 
 sub-loop : tie.Need-sub-loop Inv-loop μ-loop
-sub-loop c = omega (arith, (c .loop .inv .few), (c .loop .inv .same-room))
+sub-loop c = lines-few (c .loop .inv)
 
 part-end-requires : tie.Need-part-end-requires Inv-loop μ-loop
 part-end-requires c κs = c .before .loop .inv .within
@@ -48,19 +52,19 @@ same-length-6 : tie.Need-same-length-6 Inv-loop μ-loop
 same-length-6 c = ap (λ (p : Pieces). p .history) (c .before .before .before .loop .inv .lengths)
 
 same-length-7 : tie.Need-same-length-7 Inv-loop μ-loop
-same-length-7 c = c .before .before .before .loop .inv .same-room
+same-length-7 c = lines-room (c .before .before .before .loop .inv)
 
 returns : tie.Need-returns Inv-loop μ-loop
 returns c = (c .before .before .before .loop .inv, lines-stop (c .before .before .before .loop .inv) _ (c .before .part-end .ensures) _ (c .if1 .taken))
 
 add-used : tie.Need-add-used Inv-loop μ-loop
-add-used c = omega (arith, (c .before .if1 .left), (c .before .before .before .before .before .before .before .before .before .before .before .before .before .good .1 .1 .1 .1 .1 .1 .1 .1 .1 .0 .0))
+add-used c = omega (arith, end-more (c .before))
 
 loop-less : tie.Need-loop-less Inv-loop μ-loop
-loop-less c = turn-less (c .before .before .before .before .loop .inv) _ (c .before .before .part-end .ensures) (c .before .if1 .left) (c .before .before .before .loop-test .taken)
+loop-less c = search turn-less
 
 loop-again : tie.Need-loop-again Inv-loop μ-loop
-loop-again c = turn-empty (c .before .before .before .before .loop .inv) _ (c .before .before .part-end .ensures) (c .before .if1 .left) (c .before .before .before .loop-test .taken) (c .if2 .taken)
+loop-again c = search turn-empty
 
 sub-ask : tie.Need-sub-ask Inv-loop μ-loop
 sub-ask c = omega (arith, (c .if2 .left))
@@ -75,25 +79,38 @@ ask-requires : tie.Need-ask-requires Inv-loop μ-loop
 ask-requires c κs = search needs
 
 put-answer-requires : tie.Need-put-answer-requires Inv-loop μ-loop
-put-answer-requires c κs = turn-room (c .before .before .before .before .before .before .before .before .loop .inv) _ (c .before .before .before .before .before .before .before .loop-test .taken) refl
+put-answer-requires c κs = search turn-room
 
 tallied-requires : tie.Need-tallied-requires Inv-loop μ-loop
 tallied-requires c κs = search needs
 
 add-used-2 : tie.Need-add-used-2 Inv-loop μ-loop
-add-used-2 c = omega (arith, (c .before .before .before .before .before .before .before .before .before .if1 .left), (c .before .before .before .before .before .before .before .before .before .before .before .before .before .before .before .before .before .before .before .before .before .good .1 .1 .1 .1 .1 .1 .1 .1 .1 .0 .0))
+add-used-2 c = let e : tie.Else1 Inv-loop μ-loop = search in omega (arith, end-more e)
 
 loop-less-2 : tie.Need-loop-less-2 Inv-loop μ-loop
-loop-less-2 c = turn-less (c .before .before .before .before .before .before .before .before .before .before .before .before .loop .inv) _ (c .before .before .before .before .before .before .before .before .before .before .part-end .ensures) (c .before .before .before .before .before .before .before .before .before .if1 .left) (c .before .before .before .before .before .before .before .before .before .before .before .loop-test .taken)
+loop-less-2 c = search turn-less
 
 loop-again-2 : tie.Need-loop-again-2 Inv-loop μ-loop
-loop-again-2 c = turn-down (c .before .before .before .before .before .before .before .before .before .before .before .before .loop .inv) _ (c .before .before .before .before .before .before .before .before .before .before .part-end .ensures) (c .before .before .before .before .before .before .before .before .before .if1 .left) (c .before .before .before .before .before .before .before .before .before .before .before .loop-test .taken) (c .before .before .before .before .before .before .before .before .if2 .left) _ (c .before .before .before .before .before .before .ask .ensures) _ _ _ (c .before .before .before .before .before .if3 .taken) (c .before .before .before .put-answer .ensures) (c .tallied .ensures)
+loop-again-2 c =
+    let e : tie.Else2 Inv-loop μ-loop = search in
+    search (
+      turn-down,
+      e .before .before .before .before .loop .inv,
+      e .before .before .part-end .ensures,
+      e .before .if1 .left,
+      e .before .before .before .loop-test .taken,
+      e .if2 .left,
+      c .before .before .before .before .before .before .ask .ensures,
+      c .before .before .before .before .before .if3 .taken,
+      c .before .before .before .put-answer .ensures,
+      c .tallied .ensures,
+    )
 
 call-requires : tie.Need-call-requires Inv-loop μ-loop
 call-requires c κs = search needs
 
 put-answer-requires-2 : tie.Need-put-answer-requires-2 Inv-loop μ-loop
-put-answer-requires-2 c κs = turn-room (c .before .before .before .before .before .before .before .before .before .before .before .before .before .before .before .before .before .before .before .before .before .before .before .before .before .before .before .before .before .loop .inv) _ (c .before .before .before .before .before .before .before .before .before .before .before .before .before .before .before .before .before .before .before .before .before .before .before .before .before .before .before .before .loop-test .taken) refl
+put-answer-requires-2 c κs = let k : tie.After-call Inv-loop μ-loop = search in let e : tie.Else2 Inv-loop μ-loop = search in search turn-room
 
 tallied-requires-2 : tie.Need-tallied-requires-2 Inv-loop μ-loop
 tallied-requires-2 c κs = search needs
@@ -102,13 +119,28 @@ has-started-requires : tie.Need-has-started-requires Inv-loop μ-loop
 has-started-requires c κs = search needs
 
 add-used-3 : tie.Need-add-used-3 Inv-loop μ-loop
-add-used-3 c = omega (arith, (c .before .before .before .before .before .before .before .before .before .before .before .before .before .before .before .before .before .before .before .before .before .before .before .before .before .before .before .before .before .before .before .if1 .left), (c .before .before .before .before .before .before .before .before .before .before .before .before .before .before .before .before .before .before .before .before .before .before .before .before .before .before .before .before .before .before .before .before .before .before .before .before .before .before .before .before .before .before .before .good .1 .1 .1 .1 .1 .1 .1 .1 .1 .0 .0))
+add-used-3 c = let k : tie.After-call Inv-loop μ-loop = search in let a : tie.Else3 Inv-loop μ-loop = search in omega (arith, end-more (a .before .before .before .before))
 
 loop-less-3 : tie.Need-loop-less-3 Inv-loop μ-loop
-loop-less-3 c = turn-less (c .before .before .before .before .before .before .before .before .before .before .before .before .before .before .before .before .before .before .before .before .before .before .before .before .before .before .before .before .before .before .before .before .before .before .loop .inv) _ (c .before .before .before .before .before .before .before .before .before .before .before .before .before .before .before .before .before .before .before .before .before .before .before .before .before .before .before .before .before .before .before .before .part-end .ensures) (c .before .before .before .before .before .before .before .before .before .before .before .before .before .before .before .before .before .before .before .before .before .before .before .before .before .before .before .before .before .before .before .if1 .left) (c .before .before .before .before .before .before .before .before .before .before .before .before .before .before .before .before .before .before .before .before .before .before .before .before .before .before .before .before .before .before .before .before .before .loop-test .taken)
+loop-less-3 c = let k : tie.After-call Inv-loop μ-loop = search in let a : tie.Else3 Inv-loop μ-loop = search in search turn-less
 
 loop-again-3 : tie.Need-loop-again-3 Inv-loop μ-loop
-loop-again-3 c = turn-call (c .before .before .before .before .before .before .before .before .before .before .before .before .before .before .before .before .before .before .before .before .before .before .before .before .before .before .before .before .before .before .before .before .before .before .loop .inv) _ (c .before .before .before .before .before .before .before .before .before .before .before .before .before .before .before .before .before .before .before .before .before .before .before .before .before .before .before .before .before .before .before .before .part-end .ensures) (c .before .before .before .before .before .before .before .before .before .before .before .before .before .before .before .before .before .before .before .before .before .before .before .before .before .before .before .before .before .before .before .if1 .left) (c .before .before .before .before .before .before .before .before .before .before .before .before .before .before .before .before .before .before .before .before .before .before .before .before .before .before .before .before .before .before .before .before .before .loop-test .taken) (c .before .before .before .before .before .before .before .before .before .before .before .before .before .before .before .before .before .before .before .before .before .before .before .before .before .before .before .before .before .before .if2 .left) _ (c .before .before .before .before .before .before .before .before .before .before .before .before .before .before .before .before .before .before .before .before .before .before .before .before .before .before .before .before .ask .ensures) _ _ _ _ _ _ _ _ (c .before .before .before .before .before .before .before .before .before .before .before .before .before .before .before .before .before .before .before .before .before .before .before .before .before .before .before .if3 .left) (c .before .before .before .before .before .before .before .before .before .before .before .before .before .before .before .before .before .before .before .call .ensures) (c .before .before .before .before .put-answer2 .ensures) (c .before .tallied2 .ensures) (c .has-started .ensures)
+loop-again-3 c =
+    let k : tie.After-call Inv-loop μ-loop = search in let a : tie.Else3 Inv-loop μ-loop = search in
+    search (
+      turn-call,
+      a .before .before .before .before .before .before .before .loop .inv,
+      a .before .before .before .before .before .part-end .ensures,
+      a .before .before .before .before .if1 .left,
+      a .before .before .before .before .before .before .loop-test .taken,
+      a .before .before .before .if2 .left,
+      a .before .ask .ensures,
+      a .if3 .left,
+      k .call .ensures,
+      c .before .before .before .before .put-answer2 .ensures,
+      c .before .tallied2 .ensures,
+      c .has-started .ensures,
+    )
 
 same-length-8 : tie.Need-same-length-8 Inv-loop μ-loop
 same-length-8 c = ap (λ (p : Pieces). p .archive) (c .before .loop .inv .lengths)
@@ -129,10 +161,10 @@ same-length-13 : tie.Need-same-length-13 Inv-loop μ-loop
 same-length-13 c = ap (λ (p : Pieces). p .history) (c .before .loop .inv .lengths)
 
 same-length-14 : tie.Need-same-length-14 Inv-loop μ-loop
-same-length-14 c = c .before .loop .inv .same-room
+same-length-14 c = lines-room (c .before .loop .inv)
 
 returns-2 : tie.Need-returns-2 Inv-loop μ-loop
-returns-2 c = (c .before .loop .inv, lines-full _ _ _ _ (c .loop-test .left))
+returns-2 c = (c .before .loop .inv, λ r. absurd (omega (arith, c .loop-test .left, r)))
 
 pub answer-lines-spec : {M : Type 1} → statement M
 answer-lines-spec =

@@ -35,7 +35,7 @@ same-length-7 : tie.Need-same-length-7
 same-length-7 c = search needs
 
 returns : tie.Need-returns
-returns c = rested-full (c .before .before .before .before .before .before .before .before .before .before .before .before .before .before .before .before .before .before .answer-lines .ensures .0) _ (c .if1 .taken) (c .before .no-line .ensures)
+returns c = search rested-full
 
 sub-keep : tie.Need-sub-keep
 sub-keep c = search needs
@@ -71,7 +71,9 @@ same-length-14 : tie.Need-same-length-14
 same-length-14 c = search needs
 
 returns-2 : tie.Need-returns-2
-returns-2 c = rested-kept (c .before .before .before .before .before .before .before .before .before .before .before .before .before .before .before .before .before .before .before .before .answer-lines .ensures .0) _ _ (c .before .before .if1 .left) (c .before .before .before .before .before .before .before .before .before .before .before .before .before .before .before .before .before .before .before .before .answer-lines .ensures .1) (c .before .before .before .no-line .ensures) (c .keep .ensures)
+returns-2 c =
+    let a : tie.After-answer-lines = search in
+    search (rested-kept, a .answer-lines .ensures .0, a .answer-lines .ensures .1, c .before .before .if1 .left, c .before .before .before .no-line .ensures, c .keep .ensures)
 
 pub feed-rest-spec : {M : Type 1} → statement M
 feed-rest-spec =

@@ -18,10 +18,10 @@ ended-requires : tie.Need-ended-requires
 ended-requires c κs = search needs
 
 array-share-prefix-kept : tie.Need-array-share-prefix-kept
-array-share-prefix-kept c = let long : length (c .before .before .before .before .before .before .before .before .before .ended .result .kept) ≡ 82 = search needs in omega (arith, long, (c .before .before .before .before .before .before .before .before .before .ended .ensures .few))
+array-share-prefix-kept c = let e : tie.After-ended = search in let long : length (e .ended .result .kept) ≡ 82 = search needs in omega (arith, long, e .ended .ensures .few)
 
 slice-aggregate-answer-lines : tie.Need-slice-aggregate-answer-lines
-slice-aggregate-answer-lines c = let long : length (c .before .before .before .before .before .before .before .before .before .before .ended .result .kept) ≡ 82 = search needs in sym (length-take-le _ _ (omega (arith, long, (c .before .before .before .before .before .before .before .before .before .before .ended .ensures .few))))
+slice-aggregate-answer-lines c = sym (length-take-le _ _ (array-share-prefix-kept (c .before)))
 
 answer-lines-requires : tie.Need-answer-lines-requires
 answer-lines-requires c κs = search needs
@@ -51,7 +51,7 @@ same-length-7 : tie.Need-same-length-7
 same-length-7 c = search needs
 
 returns-2 : tie.Need-returns-2
-returns-2 c = finished-short _ _ _ _ _ _ _ _ _ _ _ (c .before .before .before .before .before .before .before .before .before .before .before .before .before .before .before .before .before .before .before .before .before .before .before .before .before .before .before .before .before .before .if1 .left) (c .before .before .before .before .before .before .before .before .before .before .before .before .before .before .before .before .before .before .before .before .before .before .before .before .before .before .before .before .ended .ensures) (c .before .before .before .before .before .before .before .before .before .before .before .before .before .before .before .before .answer-lines .ensures .0) (c .before .before .before .before .before .before .before .before .before .before .before .before .before .before .before .before .answer-lines .ensures .1) (c .if2 .taken)
+returns-2 c = let a : tie.After-answer-lines = search in let e : tie.After-ended = search in search finished-short
 
 put-end-requires : tie.Need-put-end-requires
 put-end-requires c κs = search needs
@@ -78,7 +78,7 @@ same-length-14 : tie.Need-same-length-14
 same-length-14 c = search needs
 
 returns-3 : tie.Need-returns-3
-returns-3 c = finished _ _ _ _ _ _ _ _ _ _ _ (c .before .before .before .before .before .before .before .before .before .before .before .before .before .before .before .before .before .before .before .before .before .before .before .before .before .before .before .before .before .before .before .before .before .before .if1 .left) (c .before .before .before .before .before .before .before .before .before .before .before .before .before .before .before .before .before .before .before .before .before .before .before .before .before .before .before .before .before .before .before .before .ended .ensures) (c .before .before .before .before .before .before .before .before .before .before .before .before .before .before .before .before .before .before .before .before .answer-lines .ensures .0) (c .before .before .before .before .before .before .before .before .before .before .before .before .before .before .before .before .before .before .before .before .answer-lines .ensures .1) _ _ (c .before .before .before .before .if2 .left) (c .before .before .put-end .ensures)
+returns-3 c = let a : tie.After-answer-lines = search in let e : tie.After-ended = search in search finished
 
 pub finish-spec : {M : Type 1} → statement M
 finish-spec =

@@ -20,7 +20,7 @@ use Rattle.session.specs.declared.Runner.{Runner}
 use Rattle.session.specs.Transcript.{Running, lineText, lineAfter}
 use Rattle.session.specs.Running.{StandsFor, Finishes}
 use Rattle.session.specs.Between.{deskOf, deskIn, Stands, Lines, Ended}
-use Rattle.session.proofs.Whole.{up-to-take, looked-text, looked-after, whole-text, whole-stands, whole-kept}
+use Rattle.session.proofs.Whole.{whole-text, whole-stands, whole-kept}
 use Rattle.session.proofs.Feeding.{desk-stands}
 use Rattle.session.proofs.Streaming.{last-line}
 
@@ -49,21 +49,14 @@ module _ (r : Runner) (m : Lent) (first : Text) (line : Reader) (state : StoreSt
     bytes : take (line .count) (line .kept) ≡ looked begun ++ (10 ∷ [])
     bytes = ended .bytes begun (q .reader)
 
-    no2 : length (looked begun) ≤ upTo 10 (looked begun)
-    no2 = up-to-take 81 begun (q .part)
-
     said-is : w .said ≡ lineText (lengthsOf m) x begun
-    said-is = whole-text (deskIn r m) _ (looked begun) first _ mid k f bytes w z no2 (omega (arith, h)) x (desk-stands q) ∙ looked-text (lengthsOf m) x begun
+    said-is = whole-text (deskIn r m) _ begun first _ mid k f bytes w z (q .part) (omega (arith, h)) x (desk-stands q)
 
     stands : Stands (deskOf state started tally lent) (lineAfter (lengthsOf m) x begun)
-    stands =
-        subst (Stands (deskOf state started tally lent)) (looked-after (lengthsOf m) x begun)
-        (whole-stands (deskIn r m) _ (looked begun) first _ mid k f bytes w z no2 (omega (arith, h)) x (desk-stands q))
+    stands = whole-stands (deskIn r m) _ begun first _ mid k f bytes w z (q .part) (omega (arith, h)) x (desk-stands q)
 
     same : lineAfter (lengthsOf m) x begun .oks ≡ x .oks → lent ≡ m
-    same o =
-        ap (λ (s : Kept). s .memory)
-        (whole-kept (deskIn r m) _ (looked begun) first _ mid k f bytes w z no2 (omega (arith, h)) x (desk-stands q) (ap (λ (y : Running). y .oks) (looked-after (lengthsOf m) x begun) ∙ o))
+    same o = ap (λ (s : Kept). s .memory) (whole-kept (deskIn r m) _ begun first _ mid k f bytes w z (q .part) (omega (arith, h)) x (desk-stands q) o)
 
     short : f ≤ longest
     short = omega (arith, w .puts .ends, ap length said-is, line-few (lengthsOf m) x begun)

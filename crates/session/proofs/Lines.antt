@@ -57,9 +57,6 @@ module _ {d : Desk} {text : Text} {from : ℕ} {first : Text} {at : ℕ} {e : De
   lines-few = omega (arith, w .puts .ends, w .fits)
 
   module _ (end : ℕ) (here : end ≡ used + upTo 10 (drop used text)) where
-    pub lines-end-few : end ≤ length text
-    lines-end-few = omega (arith, up-to-length 10 (drop used text), length-drop used text, w .within)
-
     module _ (f : Desk) (answer after : Text) (behind : ℕ) (inside : end < length text) (room : longest ≤ length first - filled)
         (a : AnswersLine e (take (end - used) (drop used text)) f answer) (p : Puts out filled answer after behind) where
       abbrev line : Text

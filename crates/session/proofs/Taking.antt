@@ -1,4 +1,4 @@
--- What `feed` and `finish` put lies within the output, which is as long as it was. Assumes nothing.
+-- What `feed` puts lies within the output, which is as long as it was. Assumes nothing.
 use mathlib.Core.Path.{_≡_}
 use Prim.Native.Nat.{ℕ, _≤_}
 use native.Mathlib.Omega.{arith}
@@ -7,7 +7,7 @@ use Rattle.text.specs.Parts.{Text}
 use Rattle.text.proofs.Putting.{puts-length, puts-few}
 use Rattle.store.specs.Shown.{Lent}
 use Rattle.session.specs.declared.Runner.{Runner}
-use Rattle.session.specs.Running.{Taken, Finishes}
+use Rattle.session.specs.Running.{Taken}
 
 module _ {r s : Runner} {m n : Lent} {chunk first out : Text} {used filled : ℕ} (w : Taken r m chunk first s n out used filled) where
   pub taken-room : length out ≡ length first
@@ -15,10 +15,3 @@ module _ {r s : Runner} {m n : Lent} {chunk first out : Text} {used filled : ℕ
 
   pub taken-few : filled ≤ length out
   taken-few = puts-few first 0 (w .said) out filled (omega (arith, w .fits)) (w .puts)
-
-module _ {r : Runner} {m n : Lent} {first out : Text} {end : ℕ} (w : Finishes r m first n out end) where
-  pub finished-room : length out ≡ length first
-  finished-room = puts-length first 0 (w .said) out end (omega (arith, w .fits)) (w .puts)
-
-  pub finished-few : end ≤ length out
-  finished-few = puts-few first 0 (w .said) out end (omega (arith, w .fits)) (w .puts)

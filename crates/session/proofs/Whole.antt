@@ -56,16 +56,16 @@ module _ (lengths : Pieces) (x : Running) where
   some-looked : (b : ℕ) (bs : Text) → 0 < length (looked (b ∷ bs))
   some-looked b bs = omega (arith, length-take 81 (b ∷ bs))
 
-  pub looked-text : (line : Text) → lineText lengths x (looked line) ≡ lineText lengths x line
+  looked-text : (line : Text) → lineText lengths x (looked line) ≡ lineText lengths x line
   looked-text [] = ap (lineText lengths x) (take-nil 81)
   looked-text (b ∷ bs) = text-as (looked (b ∷ bs)) (b ∷ bs) (parsed-looked (b ∷ bs)) (some-looked b bs) (omega arith)
 
-  pub looked-after : (line : Text) → lineAfter lengths x (looked line) ≡ lineAfter lengths x line
+  looked-after : (line : Text) → lineAfter lengths x (looked line) ≡ lineAfter lengths x line
   looked-after [] = ap (lineAfter lengths x) (take-nil 81)
   looked-after (b ∷ bs) = after-as (looked (b ∷ bs)) (b ∷ bs) (parsed-looked (b ∷ bs)) (some-looked b bs) (omega arith)
 
 -- No line feed stands in a part of a line.
-pub up-to-take : (n : ℕ) (a : Text) → length a ≤ upTo 10 a → length (take n a) ≤ upTo 10 (take n a)
+up-to-take : (n : ℕ) (a : Text) → length a ≤ upTo 10 a → length (take n a) ≤ upTo 10 (take n a)
 unfolding upTo
 up-to-take zero a h = omega arith
 up-to-take (suc n) [] h = omega arith
@@ -76,7 +76,7 @@ up-to-take (suc n) (x ∷ xs) h = go (eqb x 10) (up-to-take n xs) h
     go true ih k = absurd (omega (arith, k))
     go false ih k = omega (arith, ih (omega (arith, k)))
 
-pub up-to-first : (t : Text) → length (take (upTo 10 t) t) ≤ upTo 10 (take (upTo 10 t) t)
+up-to-first : (t : Text) → length (take (upTo 10 t) t) ≤ upTo 10 (take (upTo 10 t) t)
 unfolding upTo
 up-to-first [] = omega arith
 up-to-first (x ∷ xs) = go (eqb x 10) refl (up-to-first xs)
@@ -102,69 +102,68 @@ quiet lengths room y text h = go (ltb room longest) refl
         let long = ltb-false room longest e in
         subst (Quiet y) (sym (told-within lengths room y [] text long (h long))) (record { said = refl; running = refl })
 
--- One whole line.
-module _ (d : Desk) (text line first : Text) (e : Desk) (out : Text) (used filled : ℕ) (is : text ≡ line ++ (10 ∷ [])) (w : Lines d text 0 first 0 e out used filled)
-    (z : Ended text (length first) used filled) (no : length line ≤ upTo 10 line) (room : longest ≤ length first) where
-  module _ (x : Running) (q : Stands d x) where
-    abbrev went : Goes d x (length first - 0) text e (used - 0) (w .said) (length first - filled) (drop used text)
-    went = w .goes x q
+-- One whole line, of which a reader kept the bytes that are looked at.
+module _ (d : Desk) (text cut first : Text) (e : Desk) (out : Text) (used filled : ℕ) (is : text ≡ looked cut ++ (10 ∷ [])) (w : Lines d text 0 first 0 e out used filled)
+    (z : Ended text (length first) used filled) (no : length cut ≤ upTo 10 cut) (room : longest ≤ length first) (x : Running) (q : Stands d x) where
+  abbrev line : Text
+  line = looked cut
 
-    ends-at : upTo 10 (line ++ (10 ∷ [])) ≡ length line
-    unfolding upTo
-    ends-at = omega (arith, up-to-append line (10 ∷ []) no)
+  abbrev went : Goes d x (length first - 0) text e (used - 0) (w .said) (length first - filled) (drop used text)
+  went = w .goes x q
 
-    as-one : toldTo (lengthsOf (d .lent)) (length first - 0) x [] text ≡ onward (suc (length line)) (lineText (lengthsOf (d .lent)) x line) (stopped (lineAfter (lengthsOf (d .lent)) x line) [])
-    unfolding toldTo
-    as-one =
-        ap (toldTo (lengthsOf (d .lent)) (length first - 0) x []) is
-        ∙ (told-ended (lengthsOf (d .lent)) (length first - 0) x [] (line ++ (10 ∷ [])) (omega arith) (omega (arith, ends-at, length-append line (10 ∷ [])))
-        ∙ (ap
-        (λ (n : ℕ). onward (suc n) (lineText (lengthsOf (d .lent)) x (take n (line ++ (10 ∷ []))))
-        (toldTo (lengthsOf (d .lent)) (length first - 0 - length (lineText (lengthsOf (d .lent)) x (take n (line ++ (10 ∷ []))))) (lineAfter (lengthsOf (d .lent)) x (take n (line ++ (10 ∷ [])))) []
-        (drop (suc n) (line ++ (10 ∷ [])))))
-        ends-at
-        ∙ ap₂
-        (λ (t r : Text). onward (suc (length line)) (lineText (lengthsOf (d .lent)) x t) (toldTo (lengthsOf (d .lent)) (length first - 0 - length (lineText (lengthsOf (d .lent)) x t)) (lineAfter (lengthsOf (d .lent)) x t) [] r))
-        (take-append-seam line (10 ∷ [])) behind))
-      where
-        behind : drop (suc (length line)) (line ++ (10 ∷ [])) ≡ []
-        behind = ap (λ (n : ℕ). drop n (line ++ (10 ∷ []))) (sym (long (length (line ++ (10 ∷ []))) (length line) (length-append line (10 ∷ [])))) ∙ drop-length (line ++ (10 ∷ []))
-          where
-            long : (m n : ℕ) → m ≡ n + 1 → m ≡ suc n
-            long m n g = omega arith
+  ends-at : upTo 10 (line ++ (10 ∷ [])) ≡ length line
+  unfolding upTo
+  ends-at = omega (arith, up-to-append line (10 ∷ []) (up-to-take 81 cut no))
 
-    abbrev last : Told
-    last = toldTo (lengthsOf (d .lent)) (length first - filled) (went .now) [] (drop used text)
+  as-one : toldTo (lengthsOf (d .lent)) (length first - 0) x [] text ≡ onward (suc (length line)) (lineText (lengthsOf (d .lent)) x line) (stopped (lineAfter (lengthsOf (d .lent)) x line) [])
+  unfolding toldTo
+  as-one =
+      ap (toldTo (lengthsOf (d .lent)) (length first - 0) x []) is
+      ∙ (told-ended (lengthsOf (d .lent)) (length first - 0) x [] (line ++ (10 ∷ [])) (omega arith) (omega (arith, ends-at, length-append line (10 ∷ [])))
+      ∙ (ap
+      (λ (n : ℕ). onward (suc n) (lineText (lengthsOf (d .lent)) x (take n (line ++ (10 ∷ []))))
+      (toldTo (lengthsOf (d .lent)) (length first - 0 - length (lineText (lengthsOf (d .lent)) x (take n (line ++ (10 ∷ []))))) (lineAfter (lengthsOf (d .lent)) x (take n (line ++ (10 ∷ [])))) []
+      (drop (suc n) (line ++ (10 ∷ [])))))
+      ends-at
+      ∙ ap₂
+      (λ (t r : Text). onward (suc (length line)) (lineText (lengthsOf (d .lent)) x t) (toldTo (lengthsOf (d .lent)) (length first - 0 - length (lineText (lengthsOf (d .lent)) x t)) (lineAfter (lengthsOf (d .lent)) x t) [] r))
+      (take-append-seam line (10 ∷ [])) behind))
+    where
+      behind : drop (suc (length line)) (line ++ (10 ∷ [])) ≡ []
+      behind = ap (λ (n : ℕ). drop n (line ++ (10 ∷ []))) (sym (long (length (line ++ (10 ∷ []))) (length line) (length-append line (10 ∷ [])))) ∙ drop-length (line ++ (10 ∷ []))
+        where
+          long : (m n : ℕ) → m ≡ n + 1 → m ≡ suc n
+          long m n g = omega arith
 
-    silent : Quiet (went .now) last
-    silent = quiet (lengthsOf (d .lent)) (length first - filled) (went .now) (drop used text) z
+  abbrev last : Told
+  last = toldTo (lengthsOf (d .lent)) (length first - filled) (went .now) [] (drop used text)
 
-    both : onward (used - 0) (w .said) last ≡ onward (suc (length line)) (lineText (lengthsOf (d .lent)) x line) (stopped (lineAfter (lengthsOf (d .lent)) x line) [])
-    both = sym (went .told) ∙ as-one
+  silent : Quiet (went .now) last
+  silent = quiet (lengthsOf (d .lent)) (length first - filled) (went .now) (drop used text) z
 
-    pub whole-text : w .said ≡ lineText (lengthsOf (d .lent)) x line
-    unfolding onward stopped
-    whole-text =
-        sym (append-nil (w .said))
-        ∙ (ap (λ (t : Text). w .said ++ t) (sym (silent .said)) ∙ (ap (λ (t : Told). t .said) both ∙ append-nil (lineText (lengthsOf (d .lent)) x line)))
+  both : onward (used - 0) (w .said) last ≡ onward (suc (length line)) (lineText (lengthsOf (d .lent)) x line) (stopped (lineAfter (lengthsOf (d .lent)) x line) [])
+  both = sym (went .told) ∙ as-one
 
-    now-is : went .now ≡ lineAfter (lengthsOf (d .lent)) x line
-    unfolding onward stopped
-    now-is = sym (silent .running) ∙ ap (λ (t : Told). t .running) both
+  pub whole-text : w .said ≡ lineText (lengthsOf (d .lent)) x cut
+  unfolding onward stopped
+  whole-text =
+      sym (append-nil (w .said))
+      ∙ (ap (λ (t : Text). w .said ++ t) (sym (silent .said)) ∙ (ap (λ (t : Told). t .said) both ∙ (append-nil (lineText (lengthsOf (d .lent)) x line) ∙ looked-text (lengthsOf (d .lent)) x cut)))
 
-    pub whole-stands : Stands e (lineAfter (lengthsOf (d .lent)) x line)
-    whole-stands = subst (Stands e) now-is (went .stands)
+  now-is : went .now ≡ lineAfter (lengthsOf (d .lent)) x cut
+  unfolding onward stopped
+  now-is = sym (silent .running) ∙ (ap (λ (t : Told). t .running) both ∙ looked-after (lengthsOf (d .lent)) x cut)
 
-    pub whole-kept : lineAfter (lengthsOf (d .lent)) x line .oks ≡ x .oks → keptOn e ≡ keptOn d
-    whole-kept o = went .refused-kept (ap (λ (y : Running). y .oks) now-is ∙ o)
+  pub whole-stands : Stands e (lineAfter (lengthsOf (d .lent)) x cut)
+  whole-stands = subst (Stands e) now-is (went .stands)
+
+  pub whole-kept : lineAfter (lengthsOf (d .lent)) x cut .oks ≡ x .oks → keptOn e ≡ keptOn d
+  whole-kept o = went .refused-kept (ap (λ (y : Running). y .oks) now-is ∙ o)
 
 -- The line that was begun ends in the chunk.
 module _ (r : Runner) (m : Lent) (chunk first : Text) (whole line : Reader) (end : ℕ) (state : StoreState) (started : Bool) (tally : Tally) (lent : Lent) (mid : Text) (k f : ℕ)
     (h : longest ≤ length first) (here : end ≡ 0 + upTo 10 (drop 0 chunk)) (inside : end < length chunk) (keeps : Extends (r .reader) (take end chunk) whole) (ended : lines.Ended whole line)
     (w : Lines (deskIn r m) (take (line .count) (line .kept)) 0 first 0 (deskOf state started tally lent) mid k f) (z : Ended (take (line .count) (line .kept)) (length first) k f) where
-  pub line-room : (end + 1 ≤ length chunk) × (f ≤ length mid)
-  line-room = (omega arith, omega (arith, lines-few w, lines-room w))
-
   module _ (s : Runner) (after : Lent) (out : Text) (used filled : ℕ) (rs : Rested (deskOf state started tally lent) chunk (end + 1) mid f s after out used filled) where
     module _ (x : Running) (begun : Text) (q : StandsFor r m x begun) where
       abbrev cut : Text
@@ -179,20 +178,14 @@ module _ (r : Runner) (m : Lent) (chunk first : Text) (whole line : Reader) (end
       bytes : take (line .count) (line .kept) ≡ looked cut ++ (10 ∷ [])
       bytes = ended .bytes cut (keeps begun (q .reader))
 
-      no2 : length (looked cut) ≤ upTo 10 (looked cut)
-      no2 = up-to-take 81 cut no-feed
-
       said-is : w .said ≡ lineText (lengthsOf m) x cut
-      said-is = whole-text (deskIn r m) _ (looked cut) first _ mid k f bytes w z no2 h x (desk-stands q) ∙ looked-text (lengthsOf m) x cut
-
-      after-is : lineAfter (lengthsOf m) x (looked cut) ≡ lineAfter (lengthsOf m) x cut
-      after-is = looked-after (lengthsOf m) x cut
+      said-is = whole-text (deskIn r m) _ cut first _ mid k f bytes w z no-feed h x (desk-stands q)
 
       stands : Stands (deskOf state started tally lent) (lineAfter (lengthsOf m) x cut)
-      stands = subst (Stands (deskOf state started tally lent)) after-is (whole-stands (deskIn r m) _ (looked cut) first _ mid k f bytes w z no2 h x (desk-stands q))
+      stands = whole-stands (deskIn r m) _ cut first _ mid k f bytes w z no-feed h x (desk-stands q)
 
       kept-is : lineAfter (lengthsOf m) x cut .oks ≡ x .oks → keptOn (deskOf state started tally lent) ≡ keptOn (deskIn r m)
-      kept-is o = whole-kept (deskIn r m) _ (looked cut) first _ mid k f bytes w z no2 h x (desk-stands q) (ap (λ (y : Running). y .oks) after-is ∙ o)
+      kept-is = whole-kept (deskIn r m) _ cut first _ mid k f bytes w z no-feed h x (desk-stands q)
 
       long : f ≡ length (lineText (lengthsOf m) x cut)
       long = omega (arith, w .puts .ends, ap length said-is)

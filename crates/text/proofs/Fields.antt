@@ -46,10 +46,6 @@ module _ {sep : ℕ} {text : Text} {from i : ℕ} (s : Scanning sep text from i)
       let none : upTo sep (drop i text) ≡ 0 = ap (upTo sep) (drop-of-length-le text {i = i} h) in
       omega (arith, s .same, none)
 
--- A scan of the whole text.
-pub from-start : (sep : ℕ) (text : Text) (i : ℕ) → i ≡ 0 + upTo sep (drop 0 text) → i ≡ upTo sep text
-from-start sep text i e = omega arith
-
 pub up-to-length : (sep : ℕ) (text : Text) → upTo sep text ≤ length text
 unfolding upTo
 up-to-length sep [] = omega arith

@@ -12,9 +12,6 @@ use Rattle.text.specs.Lines.{looked, Holds, Extends, Ended}
 abbrev pub readerOf : Text → ℕ → Reader
 readerOf kept count = record { kept = kept; count = count }
 
-pub holds-none : (kept : Text) → Holds (readerOf kept 0) []
-holds-none kept = record { counted = refl; bytes = refl }
-
 longer : (line : Text) (b : ℕ) → length (line ++ (b ∷ [])) ≡ length line + 1
 longer line b = length-append line (b ∷ [])
 

@@ -70,7 +70,10 @@ part-result-start-2 c = search needs
 
 part-result-end-2 : tie.Need-part-result-end-2
 part-result-end-2 c =
-    let g = line-room _ _ _ _ (measured _ _ _ _ _ (c .before .before .before .before .before .before .before .before .measure .ensures) (c .before .before .before .before .before .before .before .admit-line .ensures)) (c .before .before .before .before .before .before .if1 .left) in
+    let at-if1 : tie.Else1 = search in
+    let at-admit-line : tie.After-admit-line = search in
+    let at-measure : tie.After-measure = search in
+    let g = line-room _ _ _ _ (measured _ _ _ _ _ (at-measure .measure .ensures) (at-admit-line .admit-line .ensures)) (at-if1 .if1 .left) in
     page-end _ _ _ _ _ _ _ _ _ _ (c .before .before .before .locate .ensures) (c .before .page .given .1) (g .pool-long)
 
 enum-told : tie.Need-enum-told
@@ -94,10 +97,23 @@ part-result-end-3 c =
     omega (arith, g .line-below, g .archive-long)
 
 returns-2 : tie.Need-returns-2
-returns-2 c cache = line-in-page _ _ _ (measured _ _ _ _ _ (c .before .before .before .before .before .before .before .before .before .measure .ensures) (c .before .before .before .before .before .before .before .before .admit-line .ensures)) (c .before .before .before .before .before .before .before .if1 .left) _ (c .before .before .before .before .before .before .live .ensures) _ (c .before .before .before .before .before .search .ensures) _ (c .before .before .before .before .locate .ensures) _ (c .before .before .page .given .1)
+returns-2 c cache =
+    let at-locate : tie.After-locate = search in
+    let at-search : tie.After-search = search in
+    let at-live : tie.After-live = search in
+    let at-if1 : tie.Else1 = search in
+    let at-admit-line : tie.After-admit-line = search in
+    let at-measure : tie.After-measure = search in
+    line-in-page _ _ _ (measured _ _ _ _ _ (at-measure .measure .ensures) (at-admit-line .admit-line .ensures)) (at-if1 .if1 .left) _ (at-live .live .ensures) _ (at-search .search .ensures) _ (at-locate .locate .ensures) _ (c .before .before .page .given .1)
 
 returns-3 : tie.Need-returns-3
-returns-3 c cache = line-in-archive _ _ _ (measured _ _ _ _ _ (c .before .before .before .before .before .before .before .before .measure .ensures) (c .before .before .before .before .before .before .before .admit-line .ensures)) (c .before .before .before .before .before .before .if1 .left) _ (c .before .before .before .before .before .live .ensures) _ (c .before .before .before .before .search .ensures) _ (c .before .before .before .locate .ensures) (c .before .enum-told .given .1)
+returns-3 c cache =
+    let at-search : tie.After-search = search in
+    let at-live : tie.After-live = search in
+    let at-if1 : tie.Else1 = search in
+    let at-admit-line : tie.After-admit-line = search in
+    let at-measure : tie.After-measure = search in
+    line-in-archive _ _ _ (measured _ _ _ _ _ (at-measure .measure .ensures) (at-admit-line .admit-line .ensures)) (at-if1 .if1 .left) _ (at-live .live .ensures) _ (at-search .search .ensures) _ (c .before .before .before .locate .ensures) (c .before .enum-told .given .1)
 
 pub line-spec : {M : Type 1} → statement M
 line-spec =

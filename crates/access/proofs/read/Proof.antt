@@ -32,7 +32,11 @@ recall-requires : tie.Need-recall-requires
 recall-requires c κs = found-below _ _ _ _ _ (c .before .before .before .before .before .before .find .ensures) (c .before .before .before .before .entry .given .1)
 
 value-of-requires : tie.Need-value-of-requires
-value-of-requires c κs = place-room _ _ _ _ _ (measured _ _ _ _ _ (c .before .before .before .before .before .before .before .before .before .before .before .before .measure .ensures) (c .before .before .before .before .before .before .before .before .before .before .before .admit-place .ensures)) (c .before .before .before .before .before .before .before .before .before .before .if1 .left) .bytes
+value-of-requires c κs =
+    let at-if1 : tie.Else1 = search in
+    let at-admit-place : tie.After-admit-place = search in
+    let at-measure : tie.After-measure = search in
+    place-room _ _ _ _ _ (measured _ _ _ _ _ (at-measure .measure .ensures) (at-admit-place .admit-place .ensures)) (at-if1 .if1 .left) .bytes
 
 enum-told : tie.Need-enum-told
 enum-told c = search needs
@@ -42,23 +46,42 @@ live-requires c κs = room-turn _ _ (place-room _ _ _ _ _ (measured _ _ _ _ _ (c
 
 load-requires : tie.Need-load-requires
 load-requires c κs =
-    let p = place-room _ _ _ _ _ (measured _ _ _ _ _ (c .before .before .before .before .before .before .before .before .before .before .before .before .before .measure .ensures) (c .before .before .before .before .before .before .before .before .before .before .before .before .admit-place .ensures)) (c .before .before .before .before .before .before .before .before .before .before .before .if1 .left) in
-    room-newest _ _ _ _ _ _ _ (p .room) _ _ (c .before .before .before .before .before .live .ensures) (p .line-below)
+    let at-live : tie.After-live = search in
+    let at-if1 : tie.Else1 = search in
+    let at-admit-place : tie.After-admit-place = search in
+    let at-measure : tie.After-measure = search in
+    let p = place-room _ _ _ _ _ (measured _ _ _ _ _ (at-measure .measure .ensures) (at-admit-place .admit-place .ensures)) (at-if1 .if1 .left) in
+    room-newest _ _ _ _ _ _ _ (p .room) _ _ (at-live .live .ensures) (p .line-below)
 
 value-of-requires-2 : tie.Need-value-of-requires-2
-value-of-requires-2 c κs = place-room _ _ _ _ _ (measured _ _ _ _ _ (c .before .before .before .before .before .before .before .before .before .before .before .before .before .before .before .measure .ensures) (c .before .before .before .before .before .before .before .before .before .before .before .before .before .before .admit-place .ensures)) (c .before .before .before .before .before .before .before .before .before .before .before .before .before .if1 .left) .bytes
+value-of-requires-2 c κs =
+    let at-if1 : tie.Else1 = search in
+    let at-admit-place : tie.After-admit-place = search in
+    let at-measure : tie.After-measure = search in
+    place-room _ _ _ _ _ (measured _ _ _ _ _ (at-measure .measure .ensures) (at-admit-place .admit-place .ensures)) (at-if1 .if1 .left) .bytes
 
 returns-2 : tie.Need-returns-2
-returns-2 c = (
-  hit-told _ _ _ _ (measured _ _ _ _ _ (c .before .before .before .before .before .before .before .before .before .before .before .before .before .measure .ensures) (c .before .before .before .before .before .before .before .before .before .before .before .before .admit-place .ensures)) (c .before .before .before .before .before .before .before .before .before .before .before .if1 .left) _ refl _ (c .before .before .before .before .before .before .before .before .find .ensures) _ (c .before .before .before .before .before .before .entry .given .1) _ (c .before .before .before .line-at .ensures) _ (c .value-of .ensures) _ (c .before .recall .ensures),
-  λ z. hit-state _ _ _ _ (measured _ _ _ _ _ (c .before .before .before .before .before .before .before .before .before .before .before .before .before .measure .ensures) (c .before .before .before .before .before .before .before .before .before .before .before .before .admit-place .ensures)) (c .before .before .before .before .before .before .before .before .before .before .before .if1 .left) _ refl _ (c .before .before .before .before .before .before .before .before .find .ensures) _ (c .before .before .before .before .before .before .entry .given .1) _ (c .before .before .before .line-at .ensures) _ (c .value-of .ensures) _ (c .before .recall .ensures),
-)
+returns-2 c =
+    let at-entry : tie.After-entry = search in
+    let at-find : tie.After-find = search in
+    let at-if1 : tie.Else1 = search in
+    let at-admit-place : tie.After-admit-place = search in
+    let at-measure : tie.After-measure = search in (
+      hit-told _ _ _ _ (measured _ _ _ _ _ (at-measure .measure .ensures) (at-admit-place .admit-place .ensures)) (at-if1 .if1 .left) _ refl _ (at-find .find .ensures) _ (at-entry .entry .given .1) _ (c .before .before .before .line-at .ensures) _ (c .value-of .ensures) _ (c .before .recall .ensures),
+      λ z. hit-state _ _ _ _ (measured _ _ _ _ _ (at-measure .measure .ensures) (at-admit-place .admit-place .ensures)) (at-if1 .if1 .left) _ refl _ (at-find .find .ensures) _ (at-entry .entry .given .1) _ (c .before .before .before .line-at .ensures) _ (c .value-of .ensures) _ (c .before .recall .ensures),
+    )
 
 returns-3 : tie.Need-returns-3
-returns-3 c = (
-  miss-told _ _ _ _ (measured _ _ _ _ _ (c .before .before .before .before .before .before .before .before .before .before .before .before .before .before .before .before .measure .ensures) (c .before .before .before .before .before .before .before .before .before .before .before .before .before .before .before .admit-place .ensures)) (c .before .before .before .before .before .before .before .before .before .before .before .before .before .before .if1 .left) _ (c .before .before .before .before .before .before .before .before .live .ensures) _ (c .before .before .before .before .before .before .before .before .before .before .before .find .ensures) (c .before .before .before .before .before .before .before .before .before .enum-told .given .1) _ (c .before .before .load .ensures .0) _ (c .value-of2 .ensures) _ (c .before .before .load .ensures .1),
-  λ z. miss-state _ _ _ _ (measured _ _ _ _ _ (c .before .before .before .before .before .before .before .before .before .before .before .before .before .before .before .before .measure .ensures) (c .before .before .before .before .before .before .before .before .before .before .before .before .before .before .before .admit-place .ensures)) (c .before .before .before .before .before .before .before .before .before .before .before .before .before .before .if1 .left) _ (c .before .before .before .before .before .before .before .before .live .ensures) _ (c .before .before .before .before .before .before .before .before .before .before .before .find .ensures) (c .before .before .before .before .before .before .before .before .before .enum-told .given .1) _ (c .before .before .load .ensures .0) _ (c .value-of2 .ensures) _ (c .before .before .load .ensures .1),
-)
+returns-3 c =
+    let at-live : tie.After-live = search in
+    let at-enum-told : tie.After-enum-told = search in
+    let at-find : tie.After-find = search in
+    let at-if1 : tie.Else1 = search in
+    let at-admit-place : tie.After-admit-place = search in
+    let at-measure : tie.After-measure = search in (
+      miss-told _ _ _ _ (measured _ _ _ _ _ (at-measure .measure .ensures) (at-admit-place .admit-place .ensures)) (at-if1 .if1 .left) _ (at-live .live .ensures) _ (at-find .find .ensures) (at-enum-told .enum-told .given .1) _ (c .before .before .load .ensures .0) _ (c .value-of2 .ensures) _ (c .before .before .load .ensures .1),
+      λ z. miss-state _ _ _ _ (measured _ _ _ _ _ (at-measure .measure .ensures) (at-admit-place .admit-place .ensures)) (at-if1 .if1 .left) _ (at-live .live .ensures) _ (at-find .find .ensures) (at-enum-told .enum-told .given .1) _ (c .before .before .load .ensures .0) _ (c .value-of2 .ensures) _ (c .before .before .load .ensures .1),
+    )
 
 pub read-spec : {M : Type 1} → statement M
 read-spec =

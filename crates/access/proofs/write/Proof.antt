@@ -41,7 +41,14 @@ enum-known-found : tie.Need-enum-known-found
 enum-known-found c = search needs
 
 put-value-requires : tie.Need-put-value-requires
-put-value-requires c κs = asks-write _ _ _ _ _ (measured _ _ _ _ _ (c .before .before .before .before .before .before .before .before .before .before .before .before .before .before .before .before .before .before .before .measure .ensures) (c .before .before .before .before .before .before .before .before .before .before .before .before .before .before .before .before .before .before .admit-write .ensures)) (c .before .before .before .before .before .before .before .before .before .before .before .before .before .before .before .before .before .if1 .left) _ _ (c .before .before .before .before .before .before .before .before .before .before .before .before .before .before .before .before .live .ensures) (sym (c .before .before .before .before .before .before .before .before .before .before .before .before .page-for .ensures .0) ∙ c .before .before .before .before .before .before .before .before .before .before .found .given .1)
+put-value-requires c κs =
+    let at-found : tie.After-found = search in
+    let at-page-for : tie.After-page-for = search in
+    let at-live : tie.After-live = search in
+    let at-if1 : tie.Else1 = search in
+    let at-admit-write : tie.After-admit-write = search in
+    let at-measure : tie.After-measure = search in
+    asks-write _ _ _ _ _ (measured _ _ _ _ _ (at-measure .measure .ensures) (at-admit-write .admit-write .ensures)) (at-if1 .if1 .left) _ _ (at-live .live .ensures) (sym (at-page-for .page-for .ensures .0) ∙ at-found .found .given .1)
 
 enum-told : tie.Need-enum-told
 enum-told c = search needs
@@ -59,10 +66,17 @@ same-length-8 : tie.Need-same-length-8
 same-length-8 c = search needs
 
 returns-2 : tie.Need-returns-2
-returns-2 c = (
-  write-done _ _ _ _ _ (measured _ _ _ _ _ (c .before .before .before .before .before .before .before .before .before .before .before .before .before .before .before .before .before .before .before .before .before .before .before .before .before .before .before .before .measure .ensures) (c .before .before .before .before .before .before .before .before .before .before .before .before .before .before .before .before .before .before .before .before .before .before .before .before .before .before .before .admit-write .ensures)) (c .before .before .before .before .before .before .before .before .before .before .before .before .before .before .before .before .before .before .before .before .before .before .before .before .before .before .if1 .left) _ (c .before .before .before .before .before .before .before .before .before .before .before .before .before .before .before .before .before .before .before .before .before .page-for .ensures .0) _ (c .before .before .before .before .before .before .before .before .before .before .before .before .before .before .before .before .before .before .before .found .given .1) _ (c .before .before .before .before .before .before .before .before .before .before .before .before .before .before .before .before .before .before .before .before .before .before .before .before .before .live .ensures) _ _ (c .before .before .before .before .before .before .before .before .put-value .ensures) _ (c .before .before .before .before .before .before .before .before .before .before .before .before .before .before .before .before .before .before .before .before .before .page-for .ensures .1),
-  λ z. write-left _ _ _ _ _ (measured _ _ _ _ _ (c .before .before .before .before .before .before .before .before .before .before .before .before .before .before .before .before .before .before .before .before .before .before .before .before .before .before .before .before .measure .ensures) (c .before .before .before .before .before .before .before .before .before .before .before .before .before .before .before .before .before .before .before .before .before .before .before .before .before .before .before .admit-write .ensures)) (c .before .before .before .before .before .before .before .before .before .before .before .before .before .before .before .before .before .before .before .before .before .before .before .before .before .before .if1 .left) _ (c .before .before .before .before .before .before .before .before .before .before .before .before .before .before .before .before .before .before .before .before .before .page-for .ensures .0) _ (c .before .before .before .before .before .before .before .before .before .before .before .before .before .before .before .before .before .before .before .found .given .1) _ (c .before .before .before .before .before .before .before .before .before .before .before .before .before .before .before .before .before .before .before .before .before .before .before .before .before .live .ensures) _ _ (c .before .before .before .before .before .before .before .before .put-value .ensures) _ (c .before .before .before .before .before .before .before .before .before .before .before .before .before .before .before .before .before .before .before .before .before .page-for .ensures .1),
-)
+returns-2 c =
+    let at-put-value : tie.After-put-value = search in
+    let at-found : tie.After-found = search in
+    let at-page-for : tie.After-page-for = search in
+    let at-live : tie.After-live = search in
+    let at-if1 : tie.Else1 = search in
+    let at-admit-write : tie.After-admit-write = search in
+    let at-measure : tie.After-measure = search in (
+      write-done _ _ _ _ _ (measured _ _ _ _ _ (at-measure .measure .ensures) (at-admit-write .admit-write .ensures)) (at-if1 .if1 .left) _ (at-page-for .page-for .ensures .0) _ (at-found .found .given .1) _ (at-live .live .ensures) _ _ (at-put-value .put-value .ensures) _ (at-page-for .page-for .ensures .1),
+      λ z. write-left _ _ _ _ _ (measured _ _ _ _ _ (at-measure .measure .ensures) (at-admit-write .admit-write .ensures)) (at-if1 .if1 .left) _ (at-page-for .page-for .ensures .0) _ (at-found .found .given .1) _ (at-live .live .ensures) _ _ (at-put-value .put-value .ensures) _ (at-page-for .page-for .ensures .1),
+    )
 
 same-length-9 : tie.Need-same-length-9
 same-length-9 c = search needs
@@ -77,7 +91,11 @@ same-length-12 : tie.Need-same-length-12
 same-length-12 c = search needs
 
 returns-3 : tie.Need-returns-3
-returns-3 c = (write-full _ _ _ _ _ (measured _ _ _ _ _ (c .before .before .before .before .before .before .before .before .before .measure .ensures) (c .before .before .before .before .before .before .before .before .admit-write .ensures)) (c .before .before .before .before .before .before .before .if1 .left) (sym (c .before .before .page-for .ensures .0) ∙ c .enum-told .given .1), λ z. absurd (omega arith))
+returns-3 c =
+    let at-if1 : tie.Else1 = search in
+    let at-admit-write : tie.After-admit-write = search in
+    let at-measure : tie.After-measure = search in
+    (write-full _ _ _ _ _ (measured _ _ _ _ _ (at-measure .measure .ensures) (at-admit-write .admit-write .ensures)) (at-if1 .if1 .left) (sym (c .before .before .page-for .ensures .0) ∙ c .enum-told .given .1), λ z. absurd (omega arith))
 
 pub write-spec : {M : Type 1} → statement M
 write-spec =

@@ -43,22 +43,34 @@ rollback-requires c κs =
 
 forget-requires : tie.Need-forget-requires
 forget-requires c κs =
-    let g = frames-room _ _ _ _ (measured _ _ _ _ _ (c .before .before .before .before .before .before .before .before .before .before .before .before .measure .ensures) (c .before .before .before .before .before .before .before .before .before .before .before .admit-frames .ensures)) (c .before .before .before .before .before .before .before .before .before .before .if1 .left) in
+    let at-if1 : tie.Else1 = search in
+    let at-admit-frames : tie.After-admit-frames = search in
+    let at-measure : tie.After-measure = search in
+    let g = frames-room _ _ _ _ (measured _ _ _ _ _ (at-measure .measure .ensures) (at-admit-frames .admit-frames .ensures)) (at-if1 .if1 .left) in
     room-circle _ _ (g .room)
 
 add-cmf : tie.Need-add-cmf
 add-cmf c =
-    let g = frames-room _ _ _ _ (measured _ _ _ _ _ (c .before .before .before .before .before .before .before .before .before .before .before .before .before .before .measure .ensures) (c .before .before .before .before .before .before .before .before .before .before .before .before .before .admit-frames .ensures)) (c .before .before .before .before .before .before .before .before .before .before .before .before .if1 .left) in
+    let at-if1 : tie.Else1 = search in
+    let at-admit-frames : tie.After-admit-frames = search in
+    let at-measure : tie.After-measure = search in
+    let g = frames-room _ _ _ _ (measured _ _ _ _ _ (at-measure .measure .ensures) (at-admit-frames .admit-frames .ensures)) (at-if1 .if1 .left) in
     omega (arith, g .room .fits .cmf-below, g .room .good .frames-to)
 
 sub-cmf : tie.Need-sub-cmf
 sub-cmf c =
-    let g = frames-room _ _ _ _ (measured _ _ _ _ _ (c .before .before .before .before .before .before .before .before .before .before .before .before .before .before .measure .ensures) (c .before .before .before .before .before .before .before .before .before .before .before .before .before .admit-frames .ensures)) (c .before .before .before .before .before .before .before .before .before .before .before .before .if1 .left) in
+    let at-if1 : tie.Else1 = search in
+    let at-admit-frames : tie.After-admit-frames = search in
+    let at-measure : tie.After-measure = search in
+    let g = frames-room _ _ _ _ (measured _ _ _ _ _ (at-measure .measure .ensures) (at-admit-frames .admit-frames .ensures)) (at-if1 .if1 .left) in
     omega (arith, g .k-low, g .live-most)
 
 rem-cmf : tie.Need-rem-cmf
 rem-cmf c =
-    let g = frames-room _ _ _ _ (measured _ _ _ _ _ (c .before .before .before .before .before .before .before .before .before .before .before .before .before .before .before .measure .ensures) (c .before .before .before .before .before .before .before .before .before .before .before .before .before .before .admit-frames .ensures)) (c .before .before .before .before .before .before .before .before .before .before .before .before .before .if1 .left) in
+    let at-if1 : tie.Else1 = search in
+    let at-admit-frames : tie.After-admit-frames = search in
+    let at-measure : tie.After-measure = search in
+    let g = frames-room _ _ _ _ (measured _ _ _ _ _ (at-measure .measure .ensures) (at-admit-frames .admit-frames .ensures)) (at-if1 .if1 .left) in
     omega (arith, g .room .fits .cmf-below)
 
 same-length-3 : tie.Need-same-length-3
@@ -68,8 +80,14 @@ same-length-4 : tie.Need-same-length-4
 same-length-4 c = search needs
 
 returns-2 : tie.Need-returns-2
-returns-2 c = λ held bytes last.
-    let p = rollback-drops _ _ _ (measured _ _ _ _ _ (c .before .before .before .before .before .before .before .before .before .before .before .before .before .before .before .measure .ensures) (c .before .before .before .before .before .before .before .before .before .before .before .before .before .before .admit-frames .ensures)) (c .before .before .before .before .before .before .before .before .before .before .before .before .before .if1 .left) _ (c .before .before .before .before .before .before .before .before .before .before .before .before .live .ensures) _ _ _ (c .before .before .before .before .before .before .before .before .rollback .ensures) _ _ refl (c .before .before .forget .ensures) in
+returns-2 c =
+    let at-rollback : tie.After-rollback = search in
+    let at-live : tie.After-live = search in
+    let at-if1 : tie.Else1 = search in
+    let at-admit-frames : tie.After-admit-frames = search in
+    let at-measure : tie.After-measure = search in
+    λ held bytes last.
+    let p = rollback-drops _ _ _ (measured _ _ _ _ _ (at-measure .measure .ensures) (at-admit-frames .admit-frames .ensures)) (at-if1 .if1 .left) _ (at-live .live .ensures) _ _ _ (at-rollback .rollback .ensures) _ _ refl (c .before .before .forget .ensures) in
     (p .0, λ z. p .1)
 
 pub rollback-spec : {M : Type 1} → statement M

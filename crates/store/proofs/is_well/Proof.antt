@@ -18,7 +18,9 @@ returns : tie.Need-returns
 returns c = part-fails _ (bits-part _ _ (c .before .before .live .ensures)) (c .before .bits .ensures) (c .if1 .taken)
 
 confirmed-requires : tie.Need-confirmed-requires
-confirmed-requires c κs = room-pages _ _ _ _ _ _ _ (admitted-room _ _ _ _ (sym (c .before .before .before .before .before .before .before .before .before .pre)) refl)
+confirmed-requires c κs =
+    let at-start : tie.Start = search in
+    room-pages _ _ _ _ _ _ _ (admitted-room _ _ _ _ (sym (at-start .pre)) refl)
 
 returns-2 : tie.Need-returns-2
 returns-2 c = part-fails _ (λ q. q .pages) (c .before .confirmed .ensures) (c .if2 .taken)
@@ -31,22 +33,31 @@ returns-3 c = part-fails _ (entries-part _) (c .before .entries .ensures) (c .if
 
 mul-bytes : tie.Need-mul-bytes
 mul-bytes c =
-    let g = admitted-room _ _ _ _ (sym (c .before .before .before .before .before .before .before .before .before .before .before .before .before .pre)) refl in
+    let at-start : tie.Start = search in
+    let g = admitted-room _ _ _ _ (sym (at-start .pre)) refl in
     omega (arith, g .good .lines-to)
 
 bytes-requires : tie.Need-bytes-requires
-bytes-requires c κs = room-archive _ _ (admitted-room _ _ _ _ (sym (c .before .before .before .before .before .before .before .before .before .before .before .before .before .pre)) refl)
+bytes-requires c κs =
+    let at-start : tie.Start = search in
+    room-archive _ _ (admitted-room _ _ _ _ (sym (at-start .pre)) refl)
 
 mul-bytes-2 : tie.Need-mul-bytes-2
 mul-bytes-2 c =
-    let g = admitted-room _ _ _ _ (sym (c .before .before .before .before .before .before .before .before .before .before .before .before .before .before .pre)) refl in
+    let at-start : tie.Start = search in
+    let g = admitted-room _ _ _ _ (sym (at-start .pre)) refl in
     omega (arith, g .good .pages-to)
 
 bytes-requires-2 : tie.Need-bytes-requires-2
-bytes-requires-2 c κs = room-pool _ _ (admitted-room _ _ _ _ (sym (c .before .before .before .before .before .before .before .before .before .before .before .before .before .before .pre)) refl)
+bytes-requires-2 c κs =
+    let at-start : tie.Start = search in
+    room-pool _ _ (admitted-room _ _ _ _ (sym (at-start .pre)) refl)
 
 coherent-requires : tie.Need-coherent-requires
-coherent-requires c κs = room-recent _ _ _ _ _ _ _ _ (admitted-room _ _ _ _ (sym (c .before .before .before .before .before .before .before .before .before .before .before .before .before .before .before .pre)) refl) (c .before .before .before .before .before .before .before .before .live .ensures)
+coherent-requires c κs =
+    let at-live : tie.After-live = search in
+    let at-start : tie.Start = search in
+    room-recent _ _ _ _ _ _ _ _ (admitted-room _ _ _ _ (sym (at-start .pre)) refl) (at-live .live .ensures)
 
 returns-4 : tie.Need-returns-4
 returns-4 c = search well-decided

@@ -46,22 +46,37 @@ array-share-prefix-out : tie.Need-array-share-prefix-out Inv-loop μ-loop
 array-share-prefix-out c = search needs
 
 slice-aggregate-report : tie.Need-slice-aggregate-report Inv-loop μ-loop
-slice-aggregate-report c = sym (length-take-le _ _ (c .before .before .before .before .before .before .before .before .before .before .before .before .before .before .play .ensures))
+slice-aggregate-report c =
+    let at-play : tie.After-play Inv-loop μ-loop = search in
+    sym (length-take-le _ _ (at-play .play .ensures))
 
 slice-aggregate-report-2 : tie.Need-slice-aggregate-report-2 Inv-loop μ-loop
-slice-aggregate-report-2 c = c .before .before .before .before .before .before .before .before .before .before .before .before .before .before .before .before .before .before .before .before .before .before .before .before .before .before .before .loop .inv .1
+slice-aggregate-report-2 c =
+    let at-loop : tie.At-loop Inv-loop μ-loop = search in
+    at-loop .loop .inv .1
 
 report-requires : tie.Need-report-requires Inv-loop μ-loop
-report-requires c κs = c .before .before .before .before .before .before .before .before .before .before .before .before .before .before .before .before .before .before .before .before .before .before .before .before .before .before .before .loop .inv .2
+report-requires c κs =
+    let at-loop : tie.At-loop Inv-loop μ-loop = search in
+    at-loop .loop .inv .2
 
 add-turn : tie.Need-add-turn Inv-loop μ-loop
-add-turn c = omega (arith, c .before .before .before .before .before .before .before .before .before .before .before .before .before .before .before .before .before .before .before .before .before .before .before .before .before .before .before .before .loop-test .taken)
+add-turn c =
+    let at-loop-test : tie.In-loop Inv-loop μ-loop = search in
+    omega (arith, at-loop-test .loop-test .taken)
 
 loop-less : tie.Need-loop-less Inv-loop μ-loop
-loop-less c = omega (arith, c .before .before .before .before .before .before .before .before .before .before .before .before .before .before .before .before .before .before .before .before .before .before .before .before .before .before .before .before .loop-test .taken)
+loop-less c =
+    let at-loop-test : tie.In-loop Inv-loop μ-loop = search in
+    omega (arith, at-loop-test .loop-test .taken)
 
 loop-again : tie.Need-loop-again Inv-loop μ-loop
-loop-again c = (same-pieces (c .before .before .before .before .before .before .before .before .before .before .before .before .before .before .before .before .archive .given) (c .before .before .before .before .before .before .before .before .before .before .before .before .before .before .pool .given) (c .before .before .before .before .before .before .before .before .before .before .before .before .groups .given) (c .before .before .before .before .before .before .before .before .before .before .table .given) (c .before .before .before .before .before .before .before .before .owners .given) (c .before .before .before .before .before .before .history .given) ∙ c .before .before .before .before .before .before .before .before .before .before .before .before .before .before .before .before .before .before .before .before .before .before .before .before .before .before .before .before .before .loop .inv .0, sym (c .first2 .given), c .before .report .ensures)
+loop-again c =
+    let at-owners : tie.After-owners Inv-loop μ-loop = search in
+    let at-groups : tie.After-groups Inv-loop μ-loop = search in
+    let called = at-groups .before .before .before .before .before .before .before in
+    let turned = called .before .before .before .before .before .before .before in
+    (same-pieces (at-groups .before .before .before .before .archive .given) (at-groups .before .before .pool .given) (at-groups .groups .given) (at-owners .before .before .table .given) (at-owners .owners .given) (c .before .before .before .before .before .before .history .given) ∙ turned .before .before .before .loop .inv .0, sym (c .first2 .given), c .before .report .ensures)
 
 same-length : tie.Need-same-length Inv-loop μ-loop
 same-length c = ap (λ (p : Pieces). p .archive) (c .before .loop .inv .0)

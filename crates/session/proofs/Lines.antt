@@ -56,6 +56,9 @@ module _ {d : Desk} {text : Text} {from : ℕ} {first : Text} {at : ℕ} {e : De
   pub lines-few : filled ≤ length first
   lines-few = omega (arith, w .puts .ends, w .fits)
 
+  pub lines-inside : filled ≤ length out
+  lines-inside = omega (arith, lines-few, lines-room)
+
   module _ (end : ℕ) (here : end ≡ used + upTo 10 (drop used text)) where
     module _ (f : Desk) (answer after : Text) (behind : ℕ) (inside : end < length text) (room : longest ≤ length first - filled)
         (a : AnswersLine e (take (end - used) (drop used text)) f answer) (p : Puts out filled answer after behind) where

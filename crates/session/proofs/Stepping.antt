@@ -27,10 +27,10 @@ module _ {d : Desk} {text : Text} {from : ℕ} {first : Text} {at : ℕ} {e : De
   pub turn-room : (room : ℕ) → longest ≤ room - filled → room ≡ length first → filled + longest ≤ length out
   turn-room room h e = omega (arith, lines-room w, lines-few w)
 
-  module _ (end : ℕ) (here : end ≡ used + upTo 10 (drop used text)) (inside : end < length text) (room : longest ≤ length first - filled) where
-    pub turn-less : length text - (end + 1) < length text - used
-    turn-less = omega (arith, here)
+  pub turn-less : (end : ℕ) → end ≡ used + upTo 10 (drop used text) → end < length text → length text - (end + 1) < length text - used
+  turn-less end here inside = omega (arith, here)
 
+  module _ (end : ℕ) (here : end ≡ used + upTo 10 (drop used text)) (inside : end < length text) (room : longest ≤ length first - filled) where
     -- an empty line
     pub turn-empty : end ≤ used → Lines d text from first at e out (end + 1) filled
     turn-empty h =

@@ -5,7 +5,7 @@ use Rattle.rules.specs.Settings.{Pieces}
 use native.Mathlib.Omega.{arith}
 use lib.Seq.{length-take-le}
 use Rattle.session.proofs.Feeding.{end-few, taken-full, taken-rest, taken-part}
-use Rattle.session.proofs.Lines.{lines-room, lines-few}
+use Rattle.session.proofs.Lines.{lines-inside}
 use Rattle.session.proofs.Whole.{taken-line}
 use borrow.Author.Needs.{needs}
 use Rattle.session.proofs.feed.Statement.{statement}
@@ -69,7 +69,7 @@ add-feed-rest : tie.Need-add-feed-rest
 add-feed-rest c = let a : tie.After-answer-lines = search in let e : tie.Else3 = search in let o : tie.Else1 = search in let s : tie.Start = search in omega (arith, e .if3 .left, s .good)
 
 feed-rest-requires-2 : tie.Need-feed-rest-requires-2
-feed-rest-requires-2 c κs = let a : tie.After-answer-lines = search in let e : tie.Else3 = search in (omega (arith, e .if3 .left), omega (arith, lines-few (a .answer-lines .ensures .0), lines-room (a .answer-lines .ensures .0)))
+feed-rest-requires-2 c κs = let a : tie.After-answer-lines = search in let e : tie.Else3 = search in (omega (arith, e .if3 .left), search (lines-inside, a .answer-lines .ensures .0))
 
 returns-4 : tie.Need-returns-4
 returns-4 c =

@@ -10,13 +10,13 @@ use lib.Dec.{leb, ltb}
 use lib.ListN.{length, set, take, drop, length-set, length-drop, length-append, drop-of-length-le}
 use lib.Seq.{drop-cons, drop-drop, length-take-le, take-suc-set}
 use Rattle.text.specs.Parts.{Text, fieldsOf, upTo}
-use Rattle.text.specs.Numbers.{numberIn}
+use Rattle.text.specs.Numbers.{fieldNumber}
 use Rattle.text.specs.declared.Number.{Number}
 use Rattle.text.specs.declared.Number.the-variants.{Is, Not}
 use Rattle.text.proofs.Fields.{up-to-length, split-first}
 use Rattle.records.specs.declared.Numbers.{Numbers}
 use Rattle.records.specs.Records.{followed, numbersIn}
-use Rattle.records.specs.Shown.{most, few, fieldsBehind, shownNumbers, Gathers}
+use Rattle.records.specs.Shown.{mostNumbers, few, fieldsBehind, shownNumbers, Gathers}
 
 abbrev pub numbersWith : Bool → ℕ → List ℕ → Numbers
 numbersWith good count numbers = record { good = good; count = count; numbers = numbers }
@@ -69,26 +69,26 @@ unfolding followed
 no-number before none = refl
 no-number before (some ns) = refl
 
-too-many : (before : List ℕ) (later : Option (List ℕ)) → most < length before → few (behind-them before later) ≡ none
+too-many : (before : List ℕ) (later : Option (List ℕ)) → mostNumbers < length before → few (behind-them before later) ≡ none
 unfolding few
 too-many before none h = refl
 too-many before (some ns) h =
-    ap (λ (t : Bool). cond t (some (before ++ ns)) none) (lt-leb (length (before ++ ns)) most (omega (arith, h, length-append before ns)))
+    ap (λ (t : Bool). cond t (some (before ++ ns)) none) (lt-leb (length (before ++ ns)) mostNumbers (omega (arith, h, length-append before ns)))
 
-enough : (before : List ℕ) → length before ≤ most → few (behind-them before (some [])) ≡ some before
+enough : (before : List ℕ) → length before ≤ mostNumbers → few (behind-them before (some [])) ≡ some before
 unfolding few
 enough before h =
-    ap (λ (ns : List ℕ). cond (leb (length ns) most) (some ns) none) (append-nil before)
-    ∙ ap (λ (t : Bool). cond t (some before) none) (le-leb (length before) most h)
+    ap (λ (ns : List ℕ). cond (leb (length ns) mostNumbers) (some ns) none) (append-nil before)
+    ∙ ap (λ (t : Bool). cond t (some before) none) (le-leb (length before) mostNumbers h)
 
 -- The numbers found, with those of the fields behind a place, are the numbers of all fields.
 pub record Gathering (line : Text) (end : ℕ) (numbers : List ℕ) (found at : ℕ) : Type 0 where
   pub within : at ≤ length line
-  pub long : length numbers ≡ most
-  pub some-found : found ≤ most
+  pub long : length numbers ≡ mostNumbers
+  pub some-found : found ≤ mostNumbers
   pub same : few (numbersIn (fieldsBehind (drop end line))) ≡ few (behind-them (take found numbers) (numbersIn (fieldsBehind (drop at line))))
 
-pub gathering-start : (line : Text) (end : ℕ) (numbers : List ℕ) → length numbers ≡ most → end ≤ length line → Gathering line end numbers 0 end
+pub gathering-start : (line : Text) (end : ℕ) (numbers : List ℕ) → length numbers ≡ mostNumbers → end ≤ length line → Gathering line end numbers 0 end
 gathering-start line end numbers long h = record { within = h; long = long; some-found = omega arith; same = ap few (same-option (numbersIn (fieldsBehind (drop end line)))) }
   where
     same-option : (o : Option (List ℕ)) → o ≡ behind-them [] o
@@ -98,7 +98,7 @@ gathering-start line end numbers long h = record { within = h; long = long; some
 module _ {line : Text} {end at : ℕ} {numbers : List ℕ} {found : ℕ} (g : Gathering line end numbers found at) where
   -- the next field and those behind it
   next-field : (next : ℕ) (number : Number) → at < length line → next ≡ at + 1 + upTo 9 (drop (at + 1) line)
-      → number ≡ numberIn (take (next - (at + 1)) (drop (at + 1) line))
+      → number ≡ fieldNumber (take (next - (at + 1)) (drop (at + 1) line))
       → numbersIn (fieldsBehind (drop at line)) ≡ followed number (numbersIn (fieldsBehind (drop next line)))
   unfolding numbersIn
   next-field next number h e n =
@@ -110,11 +110,11 @@ module _ {line : Text} {end at : ℕ} {numbers : List ℕ} {found : ℕ} (g : Ga
   found-length = length-take-le found numbers (omega (arith, g .long, g .some-found))
 
   module _ (next : ℕ) (number : Number) (h : at < length line) (e : next ≡ at + 1 + upTo 9 (drop (at + 1) line))
-      (n : number ≡ numberIn (take (next - (at + 1)) (drop (at + 1) line))) where
+      (n : number ≡ fieldNumber (take (next - (at + 1)) (drop (at + 1) line))) where
     whole : few (numbersIn (fieldsBehind (drop end line))) ≡ few (behind-them (take found numbers) (followed number (numbersIn (fieldsBehind (drop next line)))))
     whole = g .same ∙ ap (λ (o : Option (List ℕ)). few (behind-them (take found numbers) o)) (next-field next number h e n)
 
-    pub gathering-next : (k : ℕ) → number ≡ Is k → found < most → Gathering line end (set numbers found k) (found + 1) next
+    pub gathering-next : (k : ℕ) → number ≡ Is k → found < mostNumbers → Gathering line end (set numbers found k) (found + 1) next
     gathering-next k i less =
         record {
           within = end-few line (at + 1) next e (omega arith);
@@ -146,7 +146,7 @@ module _ {line : Text} {end at : ℕ} {numbers : List ℕ} {found : ℕ} (g : Ga
         }
 
     -- a number too many
-    pub gathering-over : (k : ℕ) → number ≡ Is k → most ≤ found → Gathers (numbersIn (fieldsBehind (drop end line))) (numbersWith false 0 numbers)
+    pub gathering-over : (k : ℕ) → number ≡ Is k → mostNumbers ≤ found → Gathers (numbersIn (fieldsBehind (drop end line))) (numbersWith false 0 numbers)
     unfolding shownNumbers
     gathering-over k i full =
         record {

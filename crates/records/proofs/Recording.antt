@@ -1,5 +1,5 @@
 -- The record of a line from its word and its numbers. Assumes nothing.
-use mathlib.Core.Path.{_≡_, refl, sym, _∙_, ap, ap₂}
+use mathlib.Core.Path.{_≡_, refl, sym, _∙_, ap}
 use mathlib.Core.Bool.{Bool, true, false, cond, not}
 use mathlib.Core.Option.{Option, none, some}
 use mathlib.Core.List.{List, [], _∷_}
@@ -14,12 +14,11 @@ use Rattle.text.specs.Lines.{limit}
 use Rattle.records.specs.declared.Word.{Word}
 use Rattle.records.specs.declared.Known.{Known}
 use Rattle.records.specs.declared.Known.the-variants.{Named, Unknown}
-use Rattle.records.specs.declared.Record.{Record}
 use Rattle.records.specs.declared.Parsed.{Parsed}
 use Rattle.records.specs.declared.Numbers.{Numbers}
-use Rattle.records.specs.Records.{Asked, Row, sameText, seldom, rows, taken, wordIn, numbersIn, asked, withNumbers, recordIn, parsed}
+use Rattle.records.specs.Records.{Row, sameText, seldom, rows, taken, wordIn, numbersIn, asked, withNumbers, recordIn, parsed}
 use Rattle.records.specs.Records.Asked.{asks, turned-down}
-use Rattle.records.specs.Shown.{most, few, fieldsBehind, shownNumbers, Gathers, numbersOf, shownParsed}
+use Rattle.records.specs.Shown.{mostNumbers, few, fieldsBehind, shownNumbers, Gathers, numbersOf, shownParsed}
 use Rattle.records.proofs.Gathering.{fields-first}
 
 -- The word of a field, row by row.
@@ -47,7 +46,7 @@ taken-not b w e = sym (ap (λ (x : Bool). cond x (Named w) Unknown) e)
 -- No row takes more numbers than the code has room for: a line for each row.
 abbrev Few : List Row → Type 0
 Few [] = Unit {0}
-Few (r ∷ rs) = ((n : ℕ) → most < n → r .takes n ≡ false) × Few rs
+Few (r ∷ rs) = ((n : ℕ) → mostNumbers < n → r .takes n ≡ false) × Few rs
 
 seldom-few : Few seldom
 unfolding seldom
@@ -78,7 +77,7 @@ rows-few = (
   ),
 )
 
-no-word : (rs : List Row) (field : Text) (n : ℕ) → Few rs → most < n → wordIn rs field n ≡ Unknown
+no-word : (rs : List Row) (field : Text) (n : ℕ) → Few rs → mostNumbers < n → wordIn rs field n ≡ Unknown
 unfolding wordIn taken
 no-word [] field n f h = refl
 no-word (r ∷ rs) field n f h = go (sameText field (r .spelt)) (no-word rs field n (f .1) h)
@@ -90,11 +89,11 @@ no-word (r ∷ rs) field n f h = go (sameText field (r .spelt)) (no-word rs fiel
 few-alike : (word : Text) (ns : Option (List ℕ)) → withNumbers word (few ns) ≡ withNumbers word ns
 unfolding withNumbers few asked
 few-alike word none = refl
-few-alike word (some ns) = go (leb (length ns) most) refl
+few-alike word (some ns) = go (leb (length ns) mostNumbers) refl
   where
-    go : (t : Bool) → leb (length ns) most ≡ t → withNumbers word (cond t (some ns) none) ≡ withNumbers word (some ns)
+    go : (t : Bool) → leb (length ns) mostNumbers ≡ t → withNumbers word (cond t (some ns) none) ≡ withNumbers word (some ns)
     go true e = refl
-    go false e = sym (ap (λ (k : Known). asked k ns) (no-word rows word (length ns) rows-few (leb-false (length ns) most e)))
+    go false e = sym (ap (λ (k : Known). asked k ns) (no-word rows word (length ns) rows-few (leb-false (length ns) mostNumbers e)))
 
 -- A line that is turned down.
 refused-is : (r : Parsed) (n : ℕ) → r .refusal ≡ n → (n ≡ 0 → ⊥) → shownParsed r ≡ turned-down n
@@ -154,7 +153,7 @@ past (y ∷ ys) (suc j) k = past ys j (omega (arith, k))
 pub number-none : (xs : List ℕ) (count i : ℕ) → count ≤ i → 0 ≡ getD (take count xs) i 0
 number-none xs count i h = sym (past (take count xs) i (omega (arith, length-take count xs)))
 
-pub number-past : (xs : List ℕ) (count i : ℕ) → length xs ≡ most → most ≤ i → 0 ≡ getD (take count xs) i 0
+pub number-past : (xs : List ℕ) (count i : ℕ) → length xs ≡ mostNumbers → mostNumbers ≤ i → 0 ≡ getD (take count xs) i 0
 number-past xs count i long h = sym (past (take count xs) i (omega (arith, length-take count xs)))
 
 pub number-is : (xs : List ℕ) (count i : ℕ) → i < count → getD xs i 0 ≡ getD (take count xs) i 0

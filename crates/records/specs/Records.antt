@@ -6,7 +6,7 @@ use mathlib.Core.List.{List, [], _∷_}
 use lib.Dec.{leb, eqb}
 use lib.ListN.{length}
 use Rattle.text.specs.Parts.{Text, fieldsOf}
-use Rattle.text.specs.Numbers.{numberIn}
+use Rattle.text.specs.Numbers.{fieldNumber}
 use Rattle.text.specs.Lines.{limit}
 use Rattle.text.specs.declared.Number.{Number}
 use Rattle.text.specs.declared.Number.the-variants.{Is, Not}
@@ -70,7 +70,7 @@ followed (Is n) (some ns) = some (n ∷ ns)
 
 unfoldable pub numbersIn : List Text → Option (List ℕ)
 numbersIn [] = some []
-numbersIn (field ∷ fields) = followed (numberIn field) (numbersIn fields)
+numbersIn (field ∷ fields) = followed (fieldNumber field) (numbersIn fields)
 
 -- 2: "The session line is not one of the records".
 unfoldable pub asked : Known → List ℕ → Asked

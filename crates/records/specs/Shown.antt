@@ -14,13 +14,13 @@ use Rattle.records.specs.Records.{Asked}
 use Rattle.records.specs.Records.Asked.{asks, turned-down}
 
 -- The most numbers that a record takes.
-abbrev pub most : ℕ
-most = 3
+abbrev pub mostNumbers : ℕ
+mostNumbers = 3
 
 -- Numbers that a record may have.
 unfoldable pub few : Option (List ℕ) → Option (List ℕ)
 few none = none
-few (some ns) = cond (leb (length ns) most) (some ns) none
+few (some ns) = cond (leb (length ns) mostNumbers) (some ns) none
 
 -- The fields that follow, from the tab on that ends a field.
 unfoldable pub fieldsBehind : Text → List Text
@@ -31,8 +31,8 @@ unfoldable pub shownNumbers : Numbers → Option (List ℕ)
 shownNumbers n = cond (n .good) (some (take (n .count) (n .numbers))) none
 
 pub record Gathers (ns : Option (List ℕ)) (n : Numbers) : Type 0 where
-  pub long : length (n .numbers) ≡ most
-  pub counted : n .count ≤ most
+  pub long : length (n .numbers) ≡ mostNumbers
+  pub counted : n .count ≤ mostNumbers
   pub same : shownNumbers n ≡ few ns
 
 -- The numbers of a record.

@@ -71,7 +71,7 @@ fn taking(word: Word, takes: bool) -> Known
     Known::Unknown
 }
 
-// The word that a field is, if it takes so many numbers: one row a record, those that come seldom first.
+// The word that a field is, if it takes so many numbers, among the records that come seldom: one row a record.
 fn seldom_word(field: &[u8], count: usize) -> Known
     ensures { λ r. ⌜ r ≡ wordIn seldom (now (field .entry)) count ⌝ }
 {

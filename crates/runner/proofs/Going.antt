@@ -1,5 +1,5 @@
 -- A chunk fed by one call after another. Assumes nothing.
-use mathlib.Core.Path.{_≡_, refl, sym, _∙_, ap, subst}
+use mathlib.Core.Path.{_≡_, refl, sym, _∙_, subst}
 use mathlib.Core.Bool.{true, false, false≢true}
 use mathlib.Core.List.{[], _++_, append-nil}
 use Prim.Native.Nat.{ℕ, _+_, _-_, _^_, _≤_, _<_}
@@ -11,12 +11,11 @@ use lib.Seq.{take-all, drop-drop}
 use Rattle.text.specs.Parts.{Text}
 use Rattle.store.specs.Shown.{Lent, lengthsOf}
 use Rattle.session.specs.declared.Runner.{Runner}
-use Rattle.session.specs.Running.{Taken}
-use Rattle.session.specs.Streamed.{Feeds}
-use Rattle.session.specs.Streamed.Feeds.{stop, next}
+use Rattle.session.specs.Running.{Taken, Feeds}
+use Rattle.session.specs.Running.Feeds.{stop, next}
 use Rattle.session.proofs.Taking.{taken-room}
 use Rattle.replies.specs.Answers.{longest}
-use Rattle.runner.specs.Reading.{Answers}
+use Rattle.runner.specs.Reading.{AnswersChunk}
 
 pub record Going (r : Runner) (m : Lent) (chunk first : Text) (s : Runner) (n : Lent) (out : Text) (from : ℕ) : Type 0 where
   pub within : from ≤ length chunk
@@ -59,10 +58,10 @@ module _ {r : Runner} {m : Lent} {chunk first : Text} {s : Runner} {n : Lent} {o
         }
 
     -- what was said could not be written
-    pub answers-cut : Answers r m chunk t o false false
+    pub answers-cut : AnswersChunk r m chunk t o false false
     answers-cut = record { lengths = k .lengths ∙ w .lengths; more-is = refl; fed = λ e. absurd (false≢true e) }
 
-  pub answers-all : length chunk ≤ from → Answers r m chunk s n true true
+  pub answers-all : length chunk ≤ from → AnswersChunk r m chunk s n true true
   answers-all h =
       record {
         lengths = w .lengths;

@@ -7,10 +7,9 @@ use Rattle.text.specs.Parts.{Text}
 use Rattle.store.specs.Shown.{Lent, lengthsOf}
 use Rattle.session.specs.declared.Runner.{Runner}
 use Rattle.session.specs.Transcript.{beginning}
-use Rattle.session.specs.Running.{StandsFor}
-use Rattle.session.specs.Streamed.{Feeds}
-use Rattle.session.specs.Streamed.Feeds.{stop, next}
-use Rattle.runner.specs.Reading.{Answers, Reads, ReadsAll}
+use Rattle.session.specs.Running.{StandsFor, Feeds}
+use Rattle.session.specs.Running.Feeds.{stop, next}
+use Rattle.runner.specs.Reading.{AnswersChunk, Reads, ReadsAll}
 
 -- One input fed, and then another.
 pub feeds-more : {r s t : Runner} {m n o : Lent} {input said input′ said′ : Text} → Feeds r m input said s n → Feeds s n input′ said′ t o
@@ -32,7 +31,7 @@ module _ (r : Runner) (m : Lent) where
   pub reads-failed : Reads r m r m false false
   reads-failed = record { lengths = refl; well = λ e. e; fed = λ e. absurd (false≢true e); ended = λ e d. absurd (false≢true e) }
 
-  pub reads-chunk : {chunk : Text} {s : Runner} {n : Lent} {more ok : Bool} → Answers r m chunk s n more ok → Reads r m s n more ok
+  pub reads-chunk : {chunk : Text} {s : Runner} {n : Lent} {more ok : Bool} → AnswersChunk r m chunk s n more ok → Reads r m s n more ok
   reads-chunk {chunk} a =
       record {
         lengths = a .lengths;

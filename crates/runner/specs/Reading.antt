@@ -6,17 +6,16 @@ use Rattle.text.specs.Parts.{Text}
 use Rattle.store.specs.Shown.{Lent, lengthsOf}
 use Rattle.session.specs.declared.Runner.{Runner}
 use Rattle.session.specs.Transcript.{beginning}
-use Rattle.session.specs.Running.{StandsFor}
-use Rattle.session.specs.Streamed.{Feeds}
+use Rattle.session.specs.Running.{StandsFor, Feeds}
 
 -- A chunk answered: if all went well, every byte of it was fed, and there may be more.
-pub record Answers (r : Runner) (before : Lent) (chunk : Text) (s : Runner) (after : Lent) (more ok : Bool) : Type 0 where
+pub record AnswersChunk (r : Runner) (before : Lent) (chunk : Text) (s : Runner) (after : Lent) (more ok : Bool) : Type 0 where
   pub lengths : lengthsOf after ≡ lengthsOf before
   pub more-is : more ≡ ok
   pub fed : ok ≡ true → (said : Text) × Feeds r before chunk said s after
 
--- A read: if there may be more, all went well and every byte that came was fed (none, if it was interrupted). At the end of input runner and lent memory
--- are as they were.
+-- A read: if there may be more, all went well and some input was fed whole (none, if it was interrupted); that it is what came is read in
+-- the code. At the end of input runner and lent memory are as they were.
 pub record Reads (r : Runner) (before : Lent) (s : Runner) (after : Lent) (more ok : Bool) : Type 0 where
   pub lengths : lengthsOf after ≡ lengthsOf before
   pub well : more ≡ true → ok ≡ true

@@ -9,7 +9,7 @@ ghost use lib.ListN.{length};
 ghost use Rattle.store.specs.Shown.{lentOf, lentLengths};
 ghost use Rattle.replies.specs.Answers.{longest};
 ghost use Rattle.session.specs.Transcript.{runnerLent};
-ghost use Rattle.runner.specs.Reading.{Answers, Reads, ReadsAll};
+ghost use Rattle.runner.specs.Reading.{AnswersChunk, Reads, ReadsAll};
 
 // The runner after a read, whether to go on, and whether all went well.
 struct Read {
@@ -42,7 +42,7 @@ fn answer_chunk(
     out: &mut [u8],
 ) -> Read
     requires { ⌜ longest ≤ length (now out) ⌝ }
-    ensures { λ r. ⌜ Answers runner (lentOf (now (archive .entry)) (now (pool .entry)) (now (groups .entry)) (now (table .entry)) (now (owners .entry)) (now (history .entry))) (now (chunk .entry)) (r .runner) (lentOf (now (archive .exit)) (now (pool .exit)) (now (groups .exit)) (now (table .exit)) (now (owners .exit)) (now (history .exit))) (r .more) (r .ok) ⌝ }
+    ensures { λ r. ⌜ AnswersChunk runner (lentOf (now (archive .entry)) (now (pool .entry)) (now (groups .entry)) (now (table .entry)) (now (owners .entry)) (now (history .entry))) (now (chunk .entry)) (r .runner) (lentOf (now (archive .exit)) (now (pool .exit)) (now (groups .exit)) (now (table .exit)) (now (owners .exit)) (now (history .exit))) (r .more) (r .ok) ⌝ }
 {
     let count = chunk.len();
     let mut current = runner;
@@ -129,7 +129,7 @@ fn read_some(
     )
 }
 
-// Answers the input to its end or to a failure. A proved loop has to end, and nothing says that the input does: so the reads are counted down
+// AnswersChunk the input to its end or to a failure. A proved loop has to end, and nothing says that the input does: so the reads are counted down
 // from a number that no run uses up.
 fn read_all(
     archive: &mut [u8],

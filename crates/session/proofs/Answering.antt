@@ -1,8 +1,8 @@
 -- A line answered. Assumes nothing.
 use mathlib.Core.Path.{_≡_, refl, sym, _∙_, ap, subst}
 use mathlib.Core.Bool.{Bool, true, false, cond, true≢false, false≢true}
-use mathlib.Core.List.{List, [], _∷_}
-use Prim.Native.Nat.{ℕ, suc, _<_, _≤_}
+use mathlib.Core.List.{List, [], _∷_, _++_}
+use Prim.Native.Nat.{ℕ, _<_, _≤_}
 use native.Mathlib.Omega.{arith}
 use borrow.Author.Tests.{eq-eqb, ne-eqb}
 use lib.ListN.{length}
@@ -16,7 +16,8 @@ use Rattle.records.specs.Records.Asked.{asks, turned-down}
 use Rattle.records.specs.Shown.{numbersOf, shownParsed}
 use Rattle.rules.specs.Call.{Answer, numberIn}
 use Rattle.rules.specs.Call.Answer.{outcome}
-use Rattle.store.specs.Shown.{StoreState, blankState, Lent, kept, lengthsOf, Promises}
+use Rattle.store.specs.Shown.{StoreState, blankState, Lent, kept, lengthsOf, Promises, Ran}
+use Rattle.store.proofs.Ran.{ran-none}
 use Rattle.tally.specs.Counts.{tallyAfter}
 use Rattle.replies.specs.declared.Shown.{Shown}
 use Rattle.replies.specs.declared.Shown.the-variants.{Nothing}
@@ -24,11 +25,11 @@ use Rattle.replies.specs.Answers.{answerLine, longest}
 use Rattle.replies.specs.Lines.{answerOf}
 use Rattle.replies.specs.Calls.{callOf}
 use Rattle.replies.proofs.Lines.{number-of, answer-few}
-use Rattle.session.specs.Transcript.{Store, Running, beginning, counted, storeAfter, lineAnswer, lineStore, lineText, lineAfter}
-use Rattle.session.specs.Running.{Stored, tallyOn, StandsFor}
+use Rattle.session.specs.Transcript.{Store, Running, beginning, callsFor, storeAfter, lineAnswer, lineStore, lineText, lineAfter}
+use Rattle.session.specs.Running.{Stored, tallyOn, StandsFor, Made}
 use Rattle.session.specs.Between.{early, admitted, startedAfter, Desk, deskOf, keptOn, Stands}
-use Rattle.session.proofs.Asking.{early-answer, early-store, answers-call, refused-same}
-use Rattle.session.proofs.Tallies.{tally-next, counted-store}
+use Rattle.session.proofs.Asking.{early-answer, early-store, early-calls, answers-call}
+use Rattle.session.proofs.Tallies.{tally-next, counted-store, counted-calls}
 
 -- The runner before its first line.
 pub stands-first : (state : StoreState) (reader : Reader) (lent : Lent) → state ≡ blankState → Holds reader []
@@ -36,14 +37,13 @@ pub stands-first : (state : StoreState) (reader : Reader) (lent : Lent) → stat
 unfolding beginning
 stands-first state reader lent b h = record { reader = h; part = omega arith; tally = refl; store = (refl, b) }
 
--- The answer to a line, whichever runner of the transcript it was. A line that is refused, and so adds no `ok`, leaves state and lent memory
--- as they were.
+-- The answer to a line, whichever runner of the transcript it was, and the calls made for it.
 pub record AnswersLine (d : Desk) (line : Text) (e : Desk) (answer : Text) : Type 0 where
   pub lengths : lengthsOf (e .lent) ≡ lengthsOf (d .lent)
   pub few : length answer ≤ longest
   pub text : (x : Running) → Stands d x → answer ≡ lineText (lengthsOf (d .lent)) x line
   pub stands : (x : Running) → Stands d x → Stands e (lineAfter (lengthsOf (d .lent)) x line)
-  pub refused-kept : (x : Running) → Stands d x → lineAfter (lengthsOf (d .lent)) x line .oks ≡ x .oks → keptOn e ≡ keptOn d
+  pub made : (x : Running) → Stands d x → Made x (lineAfter (lengthsOf (d .lent)) x line) (keptOn d) (keptOn e)
 
 -- What a line says in code.
 shown-zero : (r : Parsed) → r .refusal ≡ 0 → shownParsed r ≡ asks (r .entry .word) (numbersOf (r .entry))
@@ -77,13 +77,7 @@ module _ (started : Bool) (line : Text) (r : Parsed) (p : shownParsed r ≡ pars
 pub record Fits (d : Desk) (p : Asked) (a : Answer) (started : Bool) (state : StoreState) (after : Lent) : Type 0 where
   pub answer : (o : Store) → Stored (d .started) (keptOn d) o → a ≡ lineAnswer (lengthsOf (d .lent)) o p
   pub store : (o : Store) → Stored (d .started) (keptOn d) o → Stored started (kept state after) (lineStore (lengthsOf (d .lent)) o p)
-
-counted-refused : (a : Answer) (x : Running) (o : Store) → counted a x o .oks ≡ x .oks → numberIn a ≡ 0 → ⊥
-unfolding counted
-counted-refused a x o e z = absurd (omega (arith, same))
-  where
-    same : suc (x .oks) ≡ x .oks
-    same = sym (ap (λ (b : Bool). cond {A = Running} b (record { store = o; oks = suc (x .oks); noes = x .noes }) (record { store = o; oks = x .oks; noes = suc (x .noes) }) .oks) (eq-eqb (numberIn a) 0 z)) ∙ e
+  pub made : (o : Store) → Stored (d .started) (keptOn d) o → Ran (keptOn d) (callsFor o p) (kept state after)
 
 module _ (d : Desk) (n : ℕ) (shown : Shown) (started : Bool) (state : StoreState) (after : Lent) where
   abbrev left : Desk
@@ -104,33 +98,34 @@ module _ (d : Desk) (n : ℕ) (shown : Shown) (started : Bool) (state : StoreSta
       beside : tallyAfter (d .tally) n ≡ tallyOn (lineAfter (lengthsOf (d .lent)) x (b ∷ bs))
       unfolding lineAfter
       beside =
-          tally-next (d .tally) x (lineAnswer (lengthsOf (d .lent)) (x .store) (parsed (b ∷ bs))) (lineStore (lengthsOf (d .lent)) (x .store) (parsed (b ∷ bs))) (q .tally) n number-is
+          tally-next (d .tally) x (lineAnswer (lengthsOf (d .lent)) (x .store) (parsed (b ∷ bs))) (lineStore (lengthsOf (d .lent)) (x .store) (parsed (b ∷ bs))) (x .calls ++ callsFor (x .store) (parsed (b ∷ bs))) (q .tally) n number-is
 
       stored : Stored started (kept state after) (lineAfter (lengthsOf (d .lent)) x (b ∷ bs) .store)
       unfolding lineAfter
       stored =
           subst (Stored started (kept state after))
-          (sym (counted-store (lineAnswer (lengthsOf (d .lent)) (x .store) (parsed (b ∷ bs))) x (lineStore (lengthsOf (d .lent)) (x .store) (parsed (b ∷ bs)))))
+          (sym (counted-store (lineAnswer (lengthsOf (d .lent)) (x .store) (parsed (b ∷ bs))) x (lineStore (lengthsOf (d .lent)) (x .store) (parsed (b ∷ bs))) (x .calls ++ callsFor (x .store) (parsed (b ∷ bs)))))
           (fit .store (x .store) (q .store))
 
-      no-ok : lineAfter (lengthsOf (d .lent)) x (b ∷ bs) .oks ≡ x .oks → n ≡ 0 → ⊥
+      made-some : Made x (lineAfter (lengthsOf (d .lent)) x (b ∷ bs)) (keptOn d) (kept state after)
       unfolding lineAfter
-      no-ok e z = counted-refused (lineAnswer (lengthsOf (d .lent)) (x .store) (parsed (b ∷ bs))) x (lineStore (lengthsOf (d .lent)) (x .store) (parsed (b ∷ bs))) e (number-is ∙ z)
+      made-some =
+          (callsFor (x .store) (parsed (b ∷ bs)), counted-calls _ x _ (x .calls ++ callsFor (x .store) (parsed (b ∷ bs))), fit .made (x .store) (q .store))
 
-    some-answered : lengthsOf after ≡ lengthsOf (d .lent) → ((n ≡ 0 → ⊥) → kept state after ≡ keptOn d) → AnswersLine d (b ∷ bs) left (answerLine (answerOf n shown))
-    some-answered e k =
+    some-answered : lengthsOf after ≡ lengthsOf (d .lent) → AnswersLine d (b ∷ bs) left (answerLine (answerOf n shown))
+    some-answered e =
         record {
           lengths = e;
           few = answer-few (answerOf n shown);
           text = text-some;
           stands = λ x q. record { tally = beside x q; store = stored x q };
-          refused-kept = λ x q o. k (no-ok x q o);
+          made = made-some;
         }
 
   line-answered : (line : Text) → 0 < length line → Fits d (parsed line) (answerOf n shown) started state after
-      → lengthsOf after ≡ lengthsOf (d .lent) → ((n ≡ 0 → ⊥) → kept state after ≡ keptOn d) → AnswersLine d line left (answerLine (answerOf n shown))
-  line-answered [] h fit e k = absurd (omega (arith, h))
-  line-answered (b ∷ bs) h fit e k = some-answered b bs fit e k
+      → lengthsOf after ≡ lengthsOf (d .lent) → AnswersLine d line left (answerLine (answerOf n shown))
+  line-answered [] h fit e = absurd (omega (arith, h))
+  line-answered (b ∷ bs) h fit e = some-answered b bs fit e
 
 -- A line that is turned down,
 refusalIn : Asked → ℕ
@@ -142,9 +137,9 @@ isAsked (turned-down n) = false
 isAsked (asks w ns) = true
 
 fits-down : (d : Desk) (p : Asked) (n : ℕ) → turned-down n ≡ admitted (d .started) p → Fits d p (answerOf n Nothing) (d .started) (d .state) (d .lent)
-unfolding lineAnswer lineStore answerOf admitted isAsked refusalIn
+unfolding lineAnswer lineStore answerOf admitted isAsked refusalIn callsFor
 fits-down d (turned-down k) n e =
-    record { answer = λ o q. ap (λ (a : Asked). outcome (refusalIn a)) e; store = λ o q. q }
+    record { answer = λ o q. ap (λ (a : Asked). outcome (refusalIn a)) e; store = λ o q. q; made = λ o q. ran-none (keptOn d) }
 fits-down d (asks w ns) n e = go (early (d .started) w) refl e
   where
     go : (b : Bool) → early (d .started) w ≡ b → turned-down n ≡ cond b (turned-down 3) (asks w ns) → Fits d (asks w ns) (outcome n) (d .started) (d .state) (d .lent)
@@ -152,13 +147,14 @@ fits-down d (asks w ns) n e = go (early (d .started) w) refl e
         record {
           answer = λ o q. ap (λ (a : Asked). outcome (refusalIn a)) f ∙ early-answer (d .started) w ns (keptOn d) t o q;
           store = λ o q. subst (Stored (d .started) (keptOn d)) (sym (early-store (d .started) w ns (keptOn d) t o q)) q;
+          made = early-calls (d .started) w ns (keptOn d) t;
         }
     go false t f = absurd (false≢true (ap isAsked f))
 
 pub answers-down : (d : Desk) (line : Text) (r : Parsed) → 0 < length line → shownParsed r ≡ admitted (d .started) (parsed line) → (r .refusal ≡ 0 → ⊥)
     → AnswersLine d line (deskOf (d .state) (d .started) (tallyAfter (d .tally) (r .refusal)) (d .lent)) (answerLine (answerOf (r .refusal) Nothing))
 answers-down d line r h e n =
-    line-answered d (r .refusal) Nothing (d .started) (d .state) (d .lent) line h (fits-down d (parsed line) (r .refusal) (sym (shown-other r n) ∙ e)) refl (λ k. refl)
+    line-answered d (r .refusal) Nothing (d .started) (d .state) (d .lent) line h (fits-down d (parsed line) (r .refusal) (sym (shown-other r n) ∙ e)) refl
 
 -- and one whose call is made.
 module _ (d : Desk) (n : ℕ) (shown : Shown) (started : Bool) (state : StoreState) (after : Lent) (w : Word) (ns : List ℕ)
@@ -172,6 +168,7 @@ module _ (d : Desk) (n : ℕ) (shown : Shown) (started : Bool) (state : StoreSta
         store =
             λ o q.
             subst (λ (b : Bool). Stored b (kept state after) (storeAfter (lengthsOf (d .lent)) o (callOf w ns))) (ap (startedAfter (d .started)) (number-of n shown) ∙ sym s) (k .after o q);
+        made = k .made;
       }
 
   fits-up : (p : Asked) → asks w ns ≡ admitted (d .started) p → Fits d p (answerOf n shown) started state after
@@ -195,4 +192,4 @@ module _ (d : Desk) (n : ℕ) (shown : Shown) (started : Bool) (state : StoreSta
   answers-up line r i e z f g =
       line-answered d n shown started state after line i
       (fits-up (parsed line) (ap (λ (u : Word). asks u ns) f ∙ (ap (asks (r .entry .word)) g ∙ (sym (shown-zero r z) ∙ e))))
-      (h .lengths) (λ k. refused-same w ns (keptOn d) (answerOf n shown) (kept state after) h (λ j. k (sym (number-of n shown) ∙ j)))
+      (h .lengths)

@@ -3,7 +3,7 @@ use mathlib.Core.Path.{_≡_, refl, sym, _∙_, ap, subst}
 use mathlib.Core.Logic.{_⊎_, inl, inr, ⊎-elim}
 use mathlib.Core.Bool.{Bool, true, false, cond, _||_, true≢false, false≢true}
 use mathlib.Core.Option.{Option, none, some}
-use mathlib.Core.List.{List}
+use mathlib.Core.List.{List, [], _∷_}
 use Prim.Native.Nat.{ℕ, zero, suc}
 use native.Mathlib.Omega.{arith}
 use lib.Dec.{eqb}
@@ -16,13 +16,15 @@ use Rattle.rules.specs.Refusal.{factsBy, refusal, askedRefusal}
 use Rattle.rules.specs.Plain.{Model, freshModel}
 use Rattle.rules.specs.Promise.{formOf}
 use Rattle.records.specs.declared.Word.{Word}
+use Rattle.records.specs.Records.Asked.{asks}
 use Rattle.records.specs.declared.Word.the-variants.{Reset, Read, Write, Mark, Back, Advance, Counts}
-use Rattle.store.specs.Shown.{Kept, blankState, lengthsKept, Promises, AnswersAs}
+use Rattle.store.specs.Shown.{Kept, blankState, lengthsKept, Promises, Ran, AnswersAs}
+use Rattle.store.proofs.Ran.{ran-none, ran-one}
 use Rattle.store.proofs.Demand3.{store-answered, store-starts, store-answers-next, store-goes-on}
 use Rattle.replies.specs.Calls.{callOf}
-use Rattle.session.specs.Transcript.{Store, resetIn, unstartedRefusal, unstartedStore, answerTo, storeAfter}
+use Rattle.session.specs.Transcript.{Store, isOther, callsFor, resetIn, unstartedRefusal, unstartedStore, answerTo, storeAfter}
 use Rattle.session.specs.Running.{Stored}
-use Rattle.session.specs.Between.{isOther, early, startedAfter}
+use Rattle.session.specs.Between.{early, startedAfter}
 
 -- A word in the form in which a match has it.
 pub other-of : (asked form : Word) (b : Bool) → asked ≡ form → b ≡ isOther form → b ≡ isOther asked
@@ -109,9 +111,10 @@ module _ (s t : Kept) (c : Call) (a : Answer) (m : Model) where
   later-stored q h = (started-true _ (numberIn a) (q .0), store-goes-on s t c a m (q .1) h)
 
 -- The answer to a record's call, whatever the session's store was, and what is left.
-pub record Answers (started : Bool) (c : Call) (s : Kept) (a : Answer) (t : Kept) : Type 0 where
-  pub answer : (o : Store) → Stored started s o → a ≡ answerTo (lengthsKept s) o c
-  pub after : (o : Store) → Stored started s o → Stored (startedAfter started (numberIn a)) t (storeAfter (lengthsKept s) o c)
+pub record CallAnswered (started : Bool) (w : Word) (ns : List ℕ) (s : Kept) (a : Answer) (t : Kept) : Type 0 where
+  pub answer : (o : Store) → Stored started s o → a ≡ answerTo (lengthsKept s) o (callOf w ns)
+  pub after : (o : Store) → Stored started s o → Stored (startedAfter started (numberIn a)) t (storeAfter (lengthsKept s) o (callOf w ns))
+  pub made : (o : Store) → Stored started s o → Ran s (callsFor o (asks w ns)) t
 
 -- 3: a record that is no reset, before the first accepted one
 early-started : (b : Bool) (w : Word) → early b w ≡ true → b ≡ false
@@ -134,6 +137,11 @@ module _ (started : Bool) (w : Word) (ns : List ℕ) (s : Kept) (e : early start
   unfolding storeAfter unstartedStore
   early-store none q = ap (unstartedStore (lengthsKept s)) (other-none w ns (early-other started w e))
   early-store (some m) q = absurd (true≢false (sym (q .0) ∙ early-started started w e))
+
+  pub early-calls : (o : Store) → Stored started s o → Ran s (callsFor o (asks w ns)) s
+  unfolding callsFor
+  early-calls none q = subst (λ (b : Bool). Ran s (cond b [] (callOf w ns ∷ [])) s) (sym (early-other started w e)) (ran-none s)
+  early-calls (some m) q = absurd (true≢false (sym (q .0) ∙ early-started started w e))
 
 -- The first reset.
 module _ (s t : Kept) (asked : Settings) (a : Answer) (blank : s .state ≡ blankState) (h : Promises (RESET asked) s a t) where
@@ -172,12 +180,16 @@ first w ns s a t b e h =
 
 -- A call that is made answers as the session's store does.
 pub answers-call : (started : Bool) (w : Word) (ns : List ℕ) (s : Kept) (a : Answer) (t : Kept) → early started w ≡ false → Promises (callOf w ns) s a t
-    → Answers started (callOf w ns) s a t
-unfolding early
-answers-call started w ns s a t e h = record { answer = answer; after = after }
+    → CallAnswered started w ns s a t
+unfolding early callsFor
+answers-call started w ns s a t e h = record { answer = answer; after = after; made = made }
   where
     other : started ≡ false → isOther w ≡ false
     other q = ap (λ (b : Bool). early b w) (sym q) ∙ e
+
+    made : (o : Store) → Stored started s o → Ran s (callsFor o (asks w ns)) t
+    made none q = subst (λ (b : Bool). Ran s (cond b [] (callOf w ns ∷ [])) t) (sym (other (q .0))) (ran-one h)
+    made (some m) q = ran-one h
 
     answer : (o : Store) → Stored started s o → a ≡ answerTo (lengthsKept s) o (callOf w ns)
     answer none q = first w ns s a t (q .1) (other (q .0)) h .answer
@@ -188,7 +200,7 @@ answers-call started w ns s a t e h = record { answer = answer; after = after }
         subst (λ (b : Bool). Stored (startedAfter b (numberIn a)) t (storeAfter (lengthsKept s) none (callOf w ns))) (sym (q .0)) (first w ns s a t (q .1) (other (q .0)) h .stored)
     after (some m) q = later-stored s t (callOf w ns) a m q h
 
--- A call that is refused leaves state and lent memory as they were.
+-- The number of a refusal.
 form-number : (a : Answer) → numberIn (formOf a) ≡ numberIn a
 unfolding numberIn
 form-number (outcome n) = refl
@@ -199,6 +211,3 @@ form-number (verdict n b) = refl
 
 pub named : (w : Word) (ns : List ℕ) (n : ℕ) (a : Answer) → formOf a ≡ formOf (refused n (callOf w ns)) → numberIn a ≡ n
 named w ns n a h = ((sym (form-number a) ∙ ap numberIn h) ∙ form-number (refused n (callOf w ns))) ∙ refused-number w ns n
-
-pub refused-same : (w : Word) (ns : List ℕ) (s : Kept) (a : Answer) (t : Kept) → Promises (callOf w ns) s a t → (numberIn a ≡ 0 → ⊥) → t ≡ s
-refused-same w ns s a t h d = h .refused-kept (λ z. d (named w ns _ a (h .number) ∙ z))

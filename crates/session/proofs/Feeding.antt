@@ -12,13 +12,14 @@ use Rattle.text.specs.Lines.{Holds, Extends}
 use Rattle.text.specs.declared.Reader.{Reader}
 use Rattle.text.proofs.Fields.{up-to-length}
 use Rattle.text.proofs.Putting.{puts-none}
-use Rattle.store.specs.Shown.{Lent, lengthsOf}
+use Rattle.store.specs.Shown.{Lent, kept, lengthsOf}
 use Rattle.replies.specs.Answers.{longest}
 use Rattle.session.specs.declared.Runner.{Runner}
 use Rattle.session.specs.Transcript.{Running, stopped, onward, toldTo}
-use Rattle.session.specs.Running.{keptBy, StandsFor, Tells, Taken}
+use Rattle.session.specs.Running.{StandsFor, Tells, Taken}
 use Rattle.session.specs.Between.{deskIn, Stands, Rested}
 use Rattle.session.proofs.Telling.{onward-none, told-full, told-within}
+use Rattle.session.proofs.Making.{made-none}
 use Rattle.session.proofs.Resting.{tells-as}
 
 -- Too little room.
@@ -34,7 +35,7 @@ taken-full r m chunk out h =
       full = λ k. (refl, refl, refl, refl);
       tells =
           λ x begun q.
-          tells-as (keptBy r m) x r m 0 [] _ x begun (told-full (lengthsOf m) (length out) x begun chunk h ∙ sym (onward-none (stopped x begun))) q (λ e. refl);
+          tells-as (kept (r .state) m) x r m 0 [] _ x begun (told-full (lengthsOf m) (length out) x begun chunk h ∙ sym (onward-none (stopped x begun))) q (made-none x (kept (r .state) m));
     }
 
 -- A runner without its line.
@@ -62,9 +63,9 @@ taken-rest r m chunk first s after out used filled h e w =
       full = λ k. absurd (omega (arith, h, k));
       tells =
           λ x begun q.
-          subst (λ (b : Text). Tells (keptBy r m) x s after used (w .said) (toldTo (lengthsOf m) (length first) x b chunk)) (sym (empty-line (r .reader) begun (q .reader) e))
-          (subst (λ (n : ℕ). Tells (keptBy r m) x s after n (w .said) (toldTo (lengthsOf m) (length first) x [] chunk)) (from-nought used)
-          (subst (λ (n : ℕ). Tells (keptBy r m) x s after (used - 0) (w .said) (toldTo (lengthsOf m) n x [] chunk)) (from-nought (length first)) (w .tells x (desk-stands q))));
+          subst (λ (b : Text). Tells (kept (r .state) m) x s after used (w .said) (toldTo (lengthsOf m) (length first) x b chunk)) (sym (empty-line (r .reader) begun (q .reader) e))
+          (subst (λ (n : ℕ). Tells (kept (r .state) m) x s after n (w .said) (toldTo (lengthsOf m) (length first) x [] chunk)) (from-nought used)
+          (subst (λ (n : ℕ). Tells (kept (r .state) m) x s after (used - 0) (w .said) (toldTo (lengthsOf m) n x [] chunk)) (from-nought (length first)) (w .tells x (desk-stands q))));
     }
 
 -- Where a part of a line goes on.
@@ -93,7 +94,7 @@ taken-part r m chunk first whole end h here long keeps =
       full = λ k. absurd (omega (arith, h, k));
       tells =
           λ x begun q.
-          tells-as (keptBy r m) x _ m end [] _ x (begun ++ chunk)
+          tells-as (kept (r .state) m) x _ m end [] _ x (begun ++ chunk)
           (told-within (lengthsOf m) (length first) x begun chunk h (omega (arith, here, long)) ∙ ap (λ (n : ℕ). onward n [] (stopped x (begun ++ chunk))) count)
           (record {
             reader = subst (λ (t : Text). Holds whole (begun ++ t)) (take-all end chunk long) (keeps begun (q .reader));
@@ -101,7 +102,7 @@ taken-part r m chunk first whole end h here long keeps =
             tally = q .tally;
             store = q .store;
           })
-          (λ e. refl);
+          (made-none x (kept (r .state) m));
     }
   where
     count : length chunk ≡ end

@@ -1,26 +1,26 @@
 -- The end of input. Assumes nothing.
-use mathlib.Core.Path.{_≡_, refl, sym, _∙_, ap, ap₂, subst}
+use mathlib.Core.Path.{_≡_, refl, sym, _∙_, ap, ap₂}
 use mathlib.Core.Bool.{Bool}
 use mathlib.Core.List.{[], _∷_, _++_}
 use Prim.Native.Nat.{ℕ, _+_, _-_, _≤_, _<_}
 use native.Mathlib.Omega.{arith}
 use lib.ListN.{length, take, length-append}
-use Rattle.text.specs.Parts.{Text, upTo}
+use Rattle.text.specs.Parts.{Text}
 use Rattle.text.specs.Lines.{looked}
 use Rattle.text.specs.Lines as lines
 use Rattle.text.specs.Output.{Puts}
 use Rattle.text.specs.declared.Reader.{Reader}
 use Rattle.text.proofs.Putting.{puts-none, puts-then}
 use Rattle.rules.specs.Settings.{Pieces}
-use Rattle.store.specs.Shown.{StoreState, Lent, Kept, lengthsOf}
+use Rattle.store.specs.Shown.{StoreState, Lent, kept, lengthsOf}
 use Rattle.tally.specs.declared.Tally.{Tally}
 use Rattle.replies.specs.Answers.{endLine, longest, longestEnd}
 use Rattle.replies.proofs.Lines.{answer-few, end-few}
 use Rattle.session.specs.declared.Runner.{Runner}
 use Rattle.session.specs.Transcript.{Running, lineText, lineAfter}
-use Rattle.session.specs.Running.{StandsFor, Finishes}
-use Rattle.session.specs.Between.{deskOf, deskIn, Stands, Lines, Ended}
-use Rattle.session.proofs.Whole.{whole-text, whole-stands, whole-kept}
+use Rattle.session.specs.Running.{StandsFor, Made, Finishes}
+use Rattle.session.specs.Between.{deskOf, deskIn, Stands, Lines, NoneLeft}
+use Rattle.session.proofs.Whole.{whole-text, whole-stands, whole-made}
 use Rattle.session.proofs.Feeding.{desk-stands}
 use Rattle.session.proofs.Streaming.{last-line}
 
@@ -34,7 +34,6 @@ finished-none r m out h =
       full = λ k. (refl, refl, refl);
       ends = λ k. absurd (omega (arith, h, k));
       leaves = λ k. absurd (omega (arith, h, k));
-      refused-kept = λ k. absurd (omega (arith, h, k));
     }
 
 line-few : (lengths : Pieces) (x : Running) (line : Text) → length (lineText lengths x line) ≤ longest
@@ -44,7 +43,7 @@ line-few lengths x (b ∷ bs) = answer-few _
 
 module _ (r : Runner) (m : Lent) (first : Text) (line : Reader) (state : StoreState) (started : Bool) (tally : Tally) (lent : Lent) (mid : Text) (k f : ℕ)
     (h : longest + longestEnd ≤ length first) (ended : lines.Ended (r .reader) line)
-    (w : Lines (deskIn r m) (take (line .count) (line .kept)) 0 first 0 (deskOf state started tally lent) mid k f) (z : Ended (take (line .count) (line .kept)) (length first) k f) where
+    (w : Lines (deskIn r m) (take (line .count) (line .kept)) 0 first 0 (deskOf state started tally lent) mid k f) (z : NoneLeft (take (line .count) (line .kept)) (length first) k f) where
   module _ (x : Running) (begun : Text) (q : StandsFor r m x begun) where
     bytes : take (line .count) (line .kept) ≡ looked begun ++ (10 ∷ [])
     bytes = ended .bytes begun (q .reader)
@@ -55,8 +54,8 @@ module _ (r : Runner) (m : Lent) (first : Text) (line : Reader) (state : StoreSt
     stands : Stands (deskOf state started tally lent) (lineAfter (lengthsOf m) x begun)
     stands = whole-stands (deskIn r m) _ begun first _ mid k f bytes w z (q .part) (omega (arith, h)) x (desk-stands q)
 
-    same : lineAfter (lengthsOf m) x begun .oks ≡ x .oks → lent ≡ m
-    same o = ap (λ (s : Kept). s .memory) (whole-kept (deskIn r m) _ begun first _ mid k f bytes w z (q .part) (omega (arith, h)) x (desk-stands q) o)
+    made : Made x (lineAfter (lengthsOf m) x begun) (kept (r .state) m) (kept state lent)
+    made = whole-made (deskIn r m) _ begun first _ mid k f bytes w z (q .part) (omega (arith, h)) x (desk-stands q)
 
     short : f ≤ longest
     short = omega (arith, w .puts .ends, ap length said-is, line-few (lengthsOf m) x begun)
@@ -72,7 +71,6 @@ module _ (r : Runner) (m : Lent) (first : Text) (line : Reader) (state : StoreSt
         full = λ l. absurd (omega (arith, h, l));
         ends = λ l x begun q. absurd (omega (arith, h, j, short x begun q));
         leaves = λ l x begun q. absurd (omega (arith, h, j, short x begun q));
-        refused-kept = λ l x begun q o. same x begun q o;
       }
 
   module _ (out : Text) (end : ℕ) (j : longestEnd ≤ length first - f) (p : Puts mid f (endLine (tally .oks) (tally .noes)) out end) where
@@ -87,6 +85,5 @@ module _ (r : Runner) (m : Lent) (first : Text) (line : Reader) (state : StoreSt
           ends =
               λ l x begun q.
               ap₂ (λ (a b : Text). a ++ b) (said-is x begun q) (ap (λ (t : Tally). endLine (t .oks) (t .noes)) (stands x begun q .tally)) ∙ sym (last-line (lengthsOf m) x begun);
-          leaves = λ l x begun q. (state, started, stands x begun q .store);
-          refused-kept = λ l x begun q o. same x begun q o;
+          leaves = λ l x begun q. (state, made x begun q);
         }

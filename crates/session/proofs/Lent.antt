@@ -201,7 +201,7 @@ module _ (x : Running) (q : Roomy runnerLent (x .store)) where
   unfolding lineAfter lineStore
   line-roomy [] = q
   line-roomy (b ∷ bs) =
-      subst (Roomy runnerLent) (sym (counted-store _ x (lineStore runnerLent (x .store) (parsed (b ∷ bs))))) (go (parsed (b ∷ bs)))
+      subst (Roomy runnerLent) (sym (counted-store _ x (lineStore runnerLent (x .store) (parsed (b ∷ bs))) _)) (go (parsed (b ∷ bs)))
     where
       go : (p : Asked) → Roomy runnerLent (lineStore runnerLent (x .store) p)
       go (turned-down n) = q

@@ -2,6 +2,7 @@ pub mod Telling
 pub mod Lines
 pub mod Tallies
 pub mod Asking
+pub mod Making
 pub mod Answering
 pub mod Stepping
 pub mod Resting

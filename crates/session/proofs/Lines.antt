@@ -8,14 +8,15 @@ use lib.Seq.{drop-drop}
 use Rattle.text.specs.Parts.{Text, upTo}
 use Rattle.text.specs.Output.{Puts}
 use Rattle.text.proofs.Putting.{puts-length, puts-none, puts-then}
-use Rattle.text.proofs.Fields.{up-to-length}
 use Rattle.rules.specs.Settings.{Pieces}
 use Rattle.replies.specs.Answers.{longest}
 use Rattle.session.specs.Transcript.{Running, onward, lineText, lineAfter, toldTo}
 use Rattle.store.specs.Shown.{lengthsOf}
-use Rattle.session.specs.Between.{Desk, Stands, Goes, Lines, Ended}
+use Rattle.session.specs.Running.{Made}
+use Rattle.session.specs.Between.{Desk, keptOn, Stands, Goes, Lines, NoneLeft}
+use Rattle.session.proofs.Making.{made-none, made-then}
 use Rattle.session.proofs.Answering.{AnswersLine}
-use Rattle.session.proofs.Telling.{onward-then, onward-none, told-ended, line-oks}
+use Rattle.session.proofs.Telling.{onward-then, onward-none, told-ended}
 
 none-left : (k : ℕ) → k - k ≡ 0
 none-left k = omega arith
@@ -38,15 +39,14 @@ lines-start d text from out at h k =
             told =
                 sym (ap (λ (n : ℕ). onward n [] (toldTo (lengthsOf (d .lent)) (length out - at) x [] (drop from text))) (none-left from)
                 ∙ onward-none (toldTo (lengthsOf (d .lent)) (length out - at) x [] (drop from text)));
-            more = omega arith;
-            refused-kept = λ e. refl;
+            made = made-none x (keptOn d);
           };
     }
 
 -- An empty line gets no answer.
 pub answers-nothing : (d : Desk) → AnswersLine d [] d []
 unfolding lineText lineAfter
-answers-nothing d = record { lengths = refl; few = omega arith; text = λ x q. refl; stands = λ x q. q; refused-kept = λ x q e. refl }
+answers-nothing d = record { lengths = refl; few = omega arith; text = λ x q. refl; stands = λ x q. q; made = λ x q. made-none x (keptOn d) }
 
 module _ {d : Desk} {text : Text} {from : ℕ} {first : Text} {at : ℕ} {e : Desk} {out : Text} {used filled : ℕ} (w : Lines d text from first at e out used filled) where
   -- the output is as long as it was, and what is put stays within it
@@ -118,11 +118,7 @@ module _ {d : Desk} {text : Text} {from : ℕ} {first : Text} {at : ℕ} {e : De
                   ∙ (ap (onward (used - from) (w .said)) step
                   ∙ (onward-then (used - from) (end + 1 - used) (w .said) answer (toldTo (lengthsOf (d .lent)) (length first - behind) next [] (drop (end + 1) text))
                   ∙ ap (λ (n : ℕ). onward n (w .said ++ answer) (toldTo (lengthsOf (d .lent)) (length first - behind) next [] (drop (end + 1) text))) (omega (arith, here, w .low))));
-              more = omega (arith, g .more, line-oks (lengthsOf (d .lent)) (g .now) line);
-              refused-kept =
-                  λ s.
-                  a .refused-kept (g .now) (g .stands) (ap (λ (y : Running). y .oks) next-is ∙ omega (arith, s, g .more, line-oks (lengthsOf (d .lent)) (g .now) line))
-                  ∙ g .refused-kept (omega (arith, s, g .more, line-oks (lengthsOf (d .lent)) (g .now) line));
+              made = made-then x (g .now) next (g .made) (subst (λ (y : Running). Made (g .now) y (keptOn e) (keptOn f)) next-is (a .made (g .now) (g .stands)));
             }
 
       pub lines-next : Lines d text from first at f after (end + 1) behind
@@ -138,5 +134,5 @@ module _ {d : Desk} {text : Text} {from : ℕ} {first : Text} {at : ℕ} {e : De
             goes = goes-next;
           }
 
-    pub lines-stop : (room : ℕ) → length text ≤ end → Ended text room used filled
+    pub lines-stop : (room : ℕ) → length text ≤ end → NoneLeft text room used filled
     lines-stop room h = λ r. omega (arith, here, h, length-drop used text, w .within)

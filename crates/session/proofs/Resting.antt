@@ -11,18 +11,18 @@ use lib.Seq.{take-all}
 use Rattle.text.specs.Parts.{Text}
 use Rattle.text.specs.Lines.{Holds, Extends}
 use Rattle.text.specs.declared.Reader.{Reader}
-use Rattle.store.specs.Shown.{StoreState, Lent, Kept, lengthsOf}
+use Rattle.store.specs.Shown.{StoreState, Lent, Kept, kept, lengthsOf}
 use Rattle.tally.specs.declared.Tally.{Tally}
 use Rattle.replies.specs.Answers.{longest}
 use Rattle.session.specs.declared.Runner.{Runner}
 use Rattle.session.specs.Transcript.{Running, Told, stopped, onward}
-use Rattle.session.specs.Running.{keptBy, StandsFor, Tells}
-use Rattle.session.specs.Between.{Desk, deskOf, keptOn, Lines, Ended, Rested}
+use Rattle.session.specs.Running.{StandsFor, Made, Tells}
+use Rattle.session.specs.Between.{Desk, deskOf, keptOn, Lines, NoneLeft, Rested}
 use Rattle.session.proofs.Telling.{onward-then, told-full, told-within}
 
 -- What stands behind is nothing.
 pub tells-as : (before : Kept) (x : Running) (s : Runner) (after : Lent) (used : ℕ) (said : Text) (t : Told) (y : Running) (left : Text) → t ≡ onward used said (stopped y left)
-    → StandsFor s after y left → (y .oks ≡ x .oks → keptBy s after ≡ before) → Tells before x s after used said t
+    → StandsFor s after y left → Made x y before (kept (s .state) after) → Tells before x s after used said t
 unfolding onward stopped
 tells-as before x s after used said t y left e h k =
     subst (Tells before x s after used said) (sym e) (omega arith, sym (append-nil said), h, k)
@@ -46,7 +46,7 @@ module _ {d : Desk} {text : Text} {from : ℕ} {first : Text} {at : ℕ} {state 
             let g = w .goes x q in
             tells-as (keptOn d) x _ lent (used - from) (w .said) _ (g .now) []
             (g .told ∙ ap (onward (used - from) (w .said)) (told-full (lengthsOf (d .lent)) (length first - filled) (g .now) [] (drop used text) h))
-            (record { reader = none; part = omega arith; tally = g .stands .tally; store = g .stands .store }) (g .refused-kept);
+            (record { reader = none; part = omega arith; tally = g .stands .tally; store = g .stands .store }) (g .made);
       }
     where
       moves : (u : ℕ) → used ≡ u → longest ≤ length first - at → from < used
@@ -59,7 +59,7 @@ module _ {d : Desk} {text : Text} {from : ℕ} {first : Text} {at : ℕ} {state 
               absurd (omega (arith, w .moved stay, h, r))
 
   -- all of it is taken, and what is behind the last line kept
-  pub rested-kept : (none reader : Reader) → longest ≤ length first - filled → Ended text (length first) used filled → Holds none [] → Extends none (take (length text - used) (drop used text)) reader
+  pub rested-kept : (none reader : Reader) → longest ≤ length first - filled → NoneLeft text (length first) used filled → Holds none [] → Extends none (take (length text - used) (drop used text)) reader
       → Rested d text from first at (record { state = state; started = started; tally = tally; reader = reader }) lent out (length text) filled
   rested-kept none reader h ended q0 keeps =
       record {
@@ -78,7 +78,7 @@ module _ {d : Desk} {text : Text} {from : ℕ} {first : Text} {at : ℕ} {state 
             ∙ (ap (onward (used - from) (w .said)) (told-within (lengthsOf (d .lent)) (length first - filled) (g .now) [] (drop used text) h (ended h))
             ∙ (onward-then (used - from) (length (drop used text)) (w .said) [] (stopped (g .now) (drop used text))
             ∙ ap₂ (λ (n : ℕ) (t : Text). onward n t (stopped (g .now) (drop used text))) sum (append-nil (w .said)))))
-            (record { reader = held; part = ended h; tally = g .stands .tally; store = g .stands .store }) (g .refused-kept);
+            (record { reader = held; part = ended h; tally = g .stands .tally; store = g .stands .store }) (g .made);
       }
     where
       sum : (used - from) + length (drop used text) ≡ length text - from

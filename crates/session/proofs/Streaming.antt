@@ -10,17 +10,17 @@ use Rattle.tally.specs.Counts.{most}
 use Rattle.replies.specs.Answers.{endLine}
 use Rattle.session.specs.declared.Runner.{Runner}
 use Rattle.session.specs.Transcript.{Running, beginning, lineText, lineAfter, answersTo, transcript, toldTo}
-use Rattle.session.specs.Running.{StandsFor, Ends}
-use Rattle.session.specs.Streamed.{Feeds}
-use Rattle.session.specs.Streamed.Feeds.{stop, next}
+use Rattle.session.specs.Running.{StandsFor, Ends, Feeds}
+use Rattle.session.specs.Running.Feeds.{stop, next}
 use Rattle.session.proofs.Telling.{told-says}
 
--- The bytes that a session's calls say, whatever the chunks, are those of the transcript, continued from where the runner stands.
+-- The last line, which may lack its line feed.
 pub last-line : (lengths : Pieces) (x : Running) (begun : Text)
     → answersTo lengths x (split 10 begun []) ≡ lineText lengths x begun ++ endLine (min most (lineAfter lengths x begun .oks)) (min most (lineAfter lengths x begun .noes))
 unfolding answersTo split
 last-line lengths x begun = refl
 
+-- The bytes that a session's calls say, whatever the chunks, are those of the transcript, continued from where the runner stands.
 continued : {r t : Runner} {m o : Lent} {input said : Text} (final : Text) (x : Running) (begun : Text) → Feeds r m input said t o → Ends t o final → StandsFor r m x begun
     → said ++ final ≡ answersTo (lengthsOf m) x (split 10 begun input)
 continued final x begun stop e q = e x begun q

@@ -9,9 +9,8 @@ use lib.Dec.{ltb, eqb}
 use lib.ListN.{length, take, drop}
 use Rattle.text.specs.Parts.{Text, split, upTo}
 use Rattle.rules.specs.Settings.{Pieces}
-use Rattle.rules.specs.Call.{Answer, numberIn}
 use Rattle.replies.specs.Answers.{longest}
-use Rattle.session.specs.Transcript.{Store, Running, Told, stopped, onward, counted, lineText, lineAfter, answersTo, toldTo}
+use Rattle.session.specs.Transcript.{Running, Told, stopped, onward, lineText, lineAfter, answersTo, toldTo}
 
 abbrev toldOf : ℕ → Text → Running → Text → Told
 toldOf used said x left = record { used = used; said = said; running = x; left = left }
@@ -26,14 +25,6 @@ onward-none t = ap (λ (n : ℕ). toldOf n (t .said) (t .running) (t .left)) (om
 
 one-more : (k : ℕ) (s : Text) (t : Told) → onward 1 [] (onward k s t) ≡ onward (suc k) s t
 one-more k s t = onward-then 1 k [] s t ∙ ap (λ (n : ℕ). onward n s t) (omega arith)
-
-counted-oks : (a : Answer) (x : Running) (o : Store) → x .oks ≤ counted a x o .oks
-unfolding counted
-counted-oks a x o = go (eqb (numberIn a) 0)
-  where
-    go : (b : Bool) → x .oks ≤ cond {A = Running} b (record { store = o; oks = suc (x .oks); noes = x .noes }) (record { store = o; oks = x .oks; noes = suc (x .noes) }) .oks
-    go true = omega arith
-    go false = omega arith
 
 module _ (lengths : Pieces) where
   -- one byte
@@ -90,25 +81,6 @@ module _ (lengths : Pieces) where
           ∙ (one-more (suc (upTo 10 bs)) _ _
           ∙ ap (λ (u : Text). onward (suc (suc (upTo 10 bs))) (lineText lengths x u) (toldTo lengths (room - length (lineText lengths x u)) (lineAfter lengths x u) [] (drop (suc (upTo 10 bs)) bs)))
           (append-assoc begun (b ∷ []) (take (upTo 10 bs) bs)))
-
-  -- The tally's oks never fall.
-  pub line-oks : (x : Running) (line : Text) → x .oks ≤ lineAfter lengths x line .oks
-  unfolding lineAfter
-  line-oks x [] = omega arith
-  line-oks x (b ∷ bs) = counted-oks _ x _
-
-  pub told-oks : (room : ℕ) (x : Running) (begun text : Text) → x .oks ≤ toldTo lengths room x begun text .running .oks
-  unfolding toldTo stopped onward
-  told-oks room x begun [] = omega arith
-  told-oks room x begun (b ∷ bs) =
-      go (ltb room longest) (eqb b 10) (told-oks (room - length (lineText lengths x begun)) (lineAfter lengths x begun) [] bs) (told-oks room x (begun ++ (b ∷ [])) bs)
-    where
-      go : (u v : Bool) → lineAfter lengths x begun .oks ≤ toldTo lengths (room - length (lineText lengths x begun)) (lineAfter lengths x begun) [] bs .running .oks
-          → x .oks ≤ toldTo lengths room x (begun ++ (b ∷ [])) bs .running .oks
-          → x .oks ≤ cond u (stopped x begun) (cond v (onward 1 (lineText lengths x begun) (toldTo lengths (room - length (lineText lengths x begun)) (lineAfter lengths x begun) [] bs)) (onward 1 [] (toldTo lengths room x (begun ++ (b ∷ [])) bs))) .running .oks
-      go true v p q = omega arith
-      go false true p q = omega (arith, p, line-oks x begun)
-      go false false p q = q
 
   -- What is said to a text, and then to what is left of it and whatever follows, is what the transcript says to all.
   abbrev Says : (x : Running) (begun text more : Text) → Told → Type 0

@@ -20,11 +20,12 @@ use Rattle.store.specs.Shown.{StoreState, Lent, kept, lengthsOf}
 use Rattle.tally.specs.declared.Tally.{Tally}
 use Rattle.replies.specs.Answers.{answerLine, longest}
 use Rattle.session.specs.declared.Runner.{Runner}
-use Rattle.session.specs.Transcript.{Running, Told, stopped, onward, counted, lineAnswer, lineStore, lineText, lineAfter, toldTo}
-use Rattle.session.specs.Running.{keptBy, StandsFor, Tells, Taken}
-use Rattle.session.specs.Between.{Desk, deskOf, deskIn, keptOn, Stands, Goes, Lines, Ended, Rested}
-use Rattle.session.proofs.Telling.{told-full, told-within, told-ended, line-oks, told-oks}
-use Rattle.session.proofs.Lines.{lines-room, lines-few}
+use Rattle.session.specs.Transcript.{Running, callsFor, Told, stopped, onward, counted, lineAnswer, lineStore, lineText, lineAfter, toldTo}
+use Rattle.session.specs.Running.{StandsFor, Made, Tells, Taken}
+use Rattle.session.specs.Between.{Desk, deskOf, deskIn, keptOn, Stands, Goes, Lines, NoneLeft, Rested}
+use Rattle.session.proofs.Telling.{told-full, told-within, told-ended}
+use Rattle.session.proofs.Making.{made-then}
+use Rattle.session.proofs.Lines.{lines-room}
 use Rattle.session.proofs.Feeding.{desk-stands, up-to-append}
 
 -- A line says what the bytes of it that are looked at say.
@@ -51,7 +52,7 @@ module _ (lengths : Pieces) (x : Running) where
   unfolding lineAfter
   after-as [] b e h k = absurd (omega (arith, h))
   after-as (p ∷ ps) [] e h k = absurd (omega (arith, k))
-  after-as (p ∷ ps) (q ∷ qs) e h k = ap (λ (t : Asked). counted (lineAnswer lengths (x .store) t) x (lineStore lengths (x .store) t)) e
+  after-as (p ∷ ps) (q ∷ qs) e h k = ap (λ (t : Asked). counted (lineAnswer lengths (x .store) t) x (lineStore lengths (x .store) t) (x .calls ++ callsFor (x .store) t)) e
 
   some-looked : (b : ℕ) (bs : Text) → 0 < length (looked (b ∷ bs))
   some-looked b bs = omega (arith, length-take 81 (b ∷ bs))
@@ -104,7 +105,7 @@ quiet lengths room y text h = go (ltb room longest) refl
 
 -- One whole line, of which a reader kept the bytes that are looked at.
 module _ (d : Desk) (text cut first : Text) (e : Desk) (out : Text) (used filled : ℕ) (is : text ≡ looked cut ++ (10 ∷ [])) (w : Lines d text 0 first 0 e out used filled)
-    (z : Ended text (length first) used filled) (no : length cut ≤ upTo 10 cut) (room : longest ≤ length first) (x : Running) (q : Stands d x) where
+    (z : NoneLeft text (length first) used filled) (no : length cut ≤ upTo 10 cut) (room : longest ≤ length first) (x : Running) (q : Stands d x) where
   abbrev line : Text
   line = looked cut
 
@@ -157,13 +158,13 @@ module _ (d : Desk) (text cut first : Text) (e : Desk) (out : Text) (used filled
   pub whole-stands : Stands e (lineAfter (lengthsOf (d .lent)) x cut)
   whole-stands = subst (Stands e) now-is (went .stands)
 
-  pub whole-kept : lineAfter (lengthsOf (d .lent)) x cut .oks ≡ x .oks → keptOn e ≡ keptOn d
-  whole-kept o = went .refused-kept (ap (λ (y : Running). y .oks) now-is ∙ o)
+  pub whole-made : Made x (lineAfter (lengthsOf (d .lent)) x cut) (keptOn d) (keptOn e)
+  whole-made = subst (λ (y : Running). Made x y (keptOn d) (keptOn e)) now-is (went .made)
 
 -- The line that was begun ends in the chunk.
 module _ (r : Runner) (m : Lent) (chunk first : Text) (whole line : Reader) (end : ℕ) (state : StoreState) (started : Bool) (tally : Tally) (lent : Lent) (mid : Text) (k f : ℕ)
     (h : longest ≤ length first) (here : end ≡ 0 + upTo 10 (drop 0 chunk)) (inside : end < length chunk) (keeps : Extends (r .reader) (take end chunk) whole) (ended : lines.Ended whole line)
-    (w : Lines (deskIn r m) (take (line .count) (line .kept)) 0 first 0 (deskOf state started tally lent) mid k f) (z : Ended (take (line .count) (line .kept)) (length first) k f) where
+    (w : Lines (deskIn r m) (take (line .count) (line .kept)) 0 first 0 (deskOf state started tally lent) mid k f) (z : NoneLeft (take (line .count) (line .kept)) (length first) k f) where
   module _ (s : Runner) (after : Lent) (out : Text) (used filled : ℕ) (rs : Rested (deskOf state started tally lent) chunk (end + 1) mid f s after out used filled) where
     module _ (x : Running) (begun : Text) (q : StandsFor r m x begun) where
       abbrev cut : Text
@@ -184,8 +185,8 @@ module _ (r : Runner) (m : Lent) (chunk first : Text) (whole line : Reader) (end
       stands : Stands (deskOf state started tally lent) (lineAfter (lengthsOf m) x cut)
       stands = whole-stands (deskIn r m) _ cut first _ mid k f bytes w z no-feed h x (desk-stands q)
 
-      kept-is : lineAfter (lengthsOf m) x cut .oks ≡ x .oks → keptOn (deskOf state started tally lent) ≡ keptOn (deskIn r m)
-      kept-is = whole-kept (deskIn r m) _ cut first _ mid k f bytes w z no-feed h x (desk-stands q)
+      made : Made x (lineAfter (lengthsOf m) x cut) (kept (r .state) m) (kept state lent)
+      made = whole-made (deskIn r m) _ cut first _ mid k f bytes w z no-feed h x (desk-stands q)
 
       long : f ≡ length (lineText (lengthsOf m) x cut)
       long = omega (arith, w .puts .ends, ap length said-is)
@@ -215,21 +216,15 @@ module _ (r : Runner) (m : Lent) (chunk first : Text) (whole line : Reader) (end
           room-is : length mid - f ≡ length first - length (lineText (lengthsOf m) x cut)
           room-is = omega (arith, lines-room w, long)
 
-      tells-line : Tells (keptBy r m) x s after used (w .said ++ rs .said) (toldTo (lengthsOf m) (length first) x begun chunk)
+      tells-line : Tells (kept (r .state) m) x s after used (w .said ++ rs .said) (toldTo (lengthsOf m) (length first) x begun chunk)
       unfolding onward
       tells-line =
-          subst (Tells (keptBy r m) x s after used (w .said ++ rs .said)) (sym told) (
+          subst (Tells (kept (r .state) m) x s after used (w .said ++ rs .said)) (sym told) (
             omega (arith, rested .0, rs .low),
             ap₂ (λ (a b : Text). a ++ b) said-is (rested .1),
             rested .2,
-            λ o. rested .3 (omega (arith, o, more, later-more)) ∙ kept-is (omega (arith, o, more, later-more)),
+            made-then x (lineAfter (lengthsOf m) x cut) (later .running) made (rested .3),
           )
-        where
-          more : x .oks ≤ lineAfter (lengthsOf m) x cut .oks
-          more = line-oks (lengthsOf m) x cut
-
-          later-more : lineAfter (lengthsOf m) x cut .oks ≤ later .running .oks
-          later-more = told-oks (lengthsOf m) _ (lineAfter (lengthsOf m) x cut) [] (drop (end + 1) chunk)
 
     pub taken-line : Taken r m chunk first s after out used filled
     taken-line =

@@ -8,29 +8,18 @@ use lib.ListN.{length, drop}
 use Rattle.text.specs.Parts.{Text, upTo}
 use Rattle.text.specs.Output.{Puts}
 use Rattle.records.specs.declared.Word.{Word}
-use Rattle.records.specs.declared.Word.the-variants.{Reset, Read, Write, Mark, Back, Advance, Counts}
 use Rattle.records.specs.Records.{Asked}
 use Rattle.records.specs.Records.Asked.{asks, turned-down}
 use Rattle.tally.specs.declared.Tally.{Tally}
 use Rattle.store.specs.Shown.{StoreState, Lent, Kept, kept, lengthsOf}
 use Rattle.replies.specs.Answers.{longest}
 use Rattle.session.specs.declared.Runner.{Runner}
-use Rattle.session.specs.Transcript.{Running, onward, toldTo}
-use Rattle.session.specs.Running.{Stored, tallyOn, Tells}
+use Rattle.session.specs.Transcript.{Running, isOther, onward, toldTo}
+use Rattle.session.specs.Running.{Stored, tallyOn, Made, Tells}
 
 -- Whether a reset was accepted, after an answer of refusal n or 0. (Before the first accepted reset no other record is.)
 unfoldable pub startedAfter : Bool → ℕ → Bool
 startedAfter started n = started || eqb n 0
-
--- Whether a word is another than `reset`.
-unfoldable pub isOther : Word → Bool
-isOther Reset = false
-isOther Read = true
-isOther Write = true
-isOther Mark = true
-isOther Back = true
-isOther Advance = true
-isOther Counts = true
 
 -- What a line asks for, now that a reset was accepted or not: 1 and 2 come before 3.
 unfoldable pub early : (started : Bool) → Word → Bool
@@ -65,8 +54,7 @@ pub record Goes (d : Desk) (x : Running) (room : ℕ) (text : Text) (e : Desk) (
   pub now : Running
   pub stands : Stands e now
   pub told : toldTo (lengthsOf (d .lent)) room x [] text ≡ onward used said (toldTo (lengthsOf (d .lent)) left-room now [] rest)
-  pub more : x .oks ≤ now .oks
-  pub refused-kept : now .oks ≡ x .oks → keptOn e ≡ keptOn d
+  pub made : Made x now (keptOn d) (keptOn e)
 
 -- The lines that end in a text from a place on, answered into an output from a place on, while there is room for the longest answer.
 pub record Lines (d : Desk) (text : Text) (from : ℕ) (first : Text) (at : ℕ) (e : Desk) (out : Text) (used filled : ℕ) : Type 0 where
@@ -80,8 +68,8 @@ pub record Lines (d : Desk) (text : Text) (from : ℕ) (first : Text) (at : ℕ)
   pub goes : (x : Running) → Stands d x → Goes d x (length first - at) (drop from text) e (used - from) said (length first - filled) (drop used text)
 
 -- None is left, or there is no room.
-abbrev pub Ended : (text : Text) (room used filled : ℕ) → Type 0
-Ended text room used filled = longest ≤ room - filled → length (drop used text) ≤ upTo 10 (drop used text)
+abbrev pub NoneLeft : (text : Text) (room used filled : ℕ) → Type 0
+NoneLeft text room used filled = longest ≤ room - filled → length (drop used text) ≤ upTo 10 (drop used text)
 
 -- A runner without its line, and its lent memory.
 abbrev pub deskIn : Runner → Lent → Desk

@@ -1,4 +1,3 @@
 pub mod Transcript
 pub mod Running
 pub mod Between
-pub mod Streamed

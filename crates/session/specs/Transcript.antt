@@ -1,12 +1,14 @@
 -- The transcript of a whole session as a function of its bytes, over the plain store's answers. Quotations are of document 01.
 use Prim.Native.Nat.{ℕ, suc, _+_, _-_, min}
 use mathlib.Core.Path.{_≡_}
-use mathlib.Core.Bool.{Bool, false, not, cond, _&&_}
+use mathlib.Core.Bool.{Bool, true, false, not, cond, _&&_}
 use mathlib.Core.Option.{Option, none, some}
 use mathlib.Core.List.{List, [], _∷_, _++_}
 use lib.Dec.{leb, ltb, eqb}
 use lib.ListN.{length}
 use Rattle.text.specs.Parts.{Text, linesOf}
+use Rattle.records.specs.declared.Word.{Word}
+use Rattle.records.specs.declared.Word.the-variants.{Reset, Read, Write, Mark, Back, Advance, Counts}
 use Rattle.records.specs.Records.{Asked, parsed}
 use Rattle.records.specs.Records.Asked.{asks, turned-down}
 use Rattle.rules.specs.Settings.{Settings, Pieces, within, elements}
@@ -30,20 +32,37 @@ resetIn (ON a) = none
 abbrev pub Store : Type 0
 Store = Option Model
 
--- The runner at work: its store and its tally.
+-- The runner at work: its store, its tally and the calls made for its lines.
 pub record Running : Type 0 where
   pub store : Store
   pub oks : ℕ
   pub noes : ℕ
+  pub calls : List Call
 
 -- "an empty session prints only that, with 0 and 0".
 unfoldable pub beginning : Running
-beginning = record { store = none; oks = 0; noes = 0 }
+beginning = record { store = none; oks = 0; noes = 0; calls = [] }
 
--- The runner after an answer, with the store that it leaves: "a tally of ok and no answers".
-unfoldable pub counted : Answer → Running → Store → Running
-counted a x after =
-    cond (eqb (numberIn a) 0) (record { store = after; oks = suc (x .oks); noes = x .noes }) (record { store = after; oks = x .oks; noes = suc (x .noes) })
+-- The runner after an answer, with the store that it leaves and all calls made: "a tally of ok and no answers".
+unfoldable pub counted : Answer → Running → Store → List Call → Running
+counted a x after calls =
+    cond (eqb (numberIn a) 0) (record { store = after; oks = suc (x .oks); noes = x .noes; calls = calls }) (record { store = after; oks = x .oks; noes = suc (x .noes); calls = calls })
+
+-- Whether a word is another than `reset`.
+unfoldable pub isOther : Word → Bool
+isOther Reset = false
+isOther Read = true
+isOther Write = true
+isOther Mark = true
+isOther Back = true
+isOther Advance = true
+isOther Counts = true
+
+-- The calls made for a line: its own, or none if it gets 1, 2 or 3.
+unfoldable pub callsFor : Store → Asked → List Call
+callsFor store (turned-down n) = []
+callsFor none (asks w ns) = cond (isOther w) [] (callOf w ns ∷ [])
+callsFor (some m) (asks w ns) = callOf w ns ∷ []
 
 -- The plain store "is fed each call's arguments and the lent lengths".
 module _ (lengths : Pieces) where
@@ -85,7 +104,8 @@ module _ (lengths : Pieces) where
 
   unfoldable pub lineAfter : Running → Text → Running
   lineAfter x [] = x
-  lineAfter x (b ∷ bs) = counted (lineAnswer (x .store) (parsed (b ∷ bs))) x (lineStore (x .store) (parsed (b ∷ bs)))
+  lineAfter x (b ∷ bs) =
+      counted (lineAnswer (x .store) (parsed (b ∷ bs))) x (lineStore (x .store) (parsed (b ∷ bs))) (x .calls ++ callsFor (x .store) (parsed (b ∷ bs)))
 
   -- The answers to lines, with the tally "printed last": a count past the last 64-bit number is printed as that number.
   unfoldable pub answersTo : Running → List Text → Text

@@ -15,9 +15,9 @@ ghost use lib.ListN.{length};
 ghost use Rattle.records.specs.Records.{parsed};
 ghost use Rattle.records.specs.Shown.{shownParsed};
 ghost use Rattle.store.specs.Shown.{Lent, lentOf};
-ghost use Rattle.session.specs.Transcript.{beginning};
+ghost use Rattle.session.specs.Transcript.{beginning, isOther};
 ghost use Rattle.session.specs.Running.{StandsFor, Taken, Finishes};
-ghost use Rattle.session.specs.Between.{isOther, early, admitted, startedAfter, deskOf, Lines, Ended, Rested};
+ghost use Rattle.session.specs.Between.{early, admitted, startedAfter, deskOf, Lines, NoneLeft, Rested};
 
 // The runner between two bytes of its input: the store's state and whether a reset was accepted, the tally, and the line that is not whole yet.
 pub struct Runner {
@@ -115,7 +115,7 @@ fn has_started(started: bool, refusal: u32) -> bool
 // Answers the lines that end in a text from a place on, while the output has room for the longest answer.
 fn answer_lines(
     before: State,
-    begun: bool,
+    accepted: bool,
     sum: Tally,
     archive: &mut [u8],
     pool: &mut [u8],
@@ -130,16 +130,16 @@ fn answer_lines(
 ) -> Answered
     requires { ⌜ (from ≤ length (now chunk)) × (at ≤ length (now out)) ⌝ }
     ensures { λ r. ⌜ Lines
-        (deskOf before begun sum (lentOf (now (archive .entry)) (now (pool .entry)) (now (groups .entry)) (now (table .entry)) (now (owners .entry)) (now (history .entry))))
+        (deskOf before accepted sum (lentOf (now (archive .entry)) (now (pool .entry)) (now (groups .entry)) (now (table .entry)) (now (owners .entry)) (now (history .entry))))
         (now (chunk .entry)) from (now (out .entry)) at
         (deskOf (r .state) (r .started) (r .tally) (lentOf (now (archive .exit)) (now (pool .exit)) (now (groups .exit)) (now (table .exit)) (now (owners .exit)) (now (history .exit))))
         (now (out .exit)) (r .used) (r .filled)
-        × Ended (now (chunk .entry)) (length (now (out .entry))) (r .used) (r .filled) ⌝ }
+        × NoneLeft (now (chunk .entry)) (length (now (out .entry))) (r .used) (r .filled) ⌝ }
 {
     let count = chunk.len();
     let room = out.len();
     let mut state = before;
-    let mut started = begun;
+    let mut started = accepted;
     let mut tally = sum;
     let mut used = from;
     let mut filled = at;
@@ -188,7 +188,7 @@ fn answer_lines(
 // Answers the lines that end in a chunk from a place on, and keeps what is left of it, if there is room.
 fn feed_rest(
     before: State,
-    begun: bool,
+    accepted: bool,
     sum: Tally,
     archive: &mut [u8],
     pool: &mut [u8],
@@ -203,14 +203,14 @@ fn feed_rest(
 ) -> Fed
     requires { ⌜ (from ≤ length (now chunk)) × (at ≤ length (now out)) ⌝ }
     ensures { λ r. ⌜ Rested
-        (deskOf before begun sum (lentOf (now (archive .entry)) (now (pool .entry)) (now (groups .entry)) (now (table .entry)) (now (owners .entry)) (now (history .entry))))
+        (deskOf before accepted sum (lentOf (now (archive .entry)) (now (pool .entry)) (now (groups .entry)) (now (table .entry)) (now (owners .entry)) (now (history .entry))))
         (now (chunk .entry)) from (now (out .entry)) at (r .runner) (lentOf (now (archive .exit)) (now (pool .exit)) (now (groups .exit)) (now (table .exit)) (now (owners .exit)) (now (history .exit)))
         (now (out .exit)) (r .used) (r .filled) ⌝ }
 {
     let room = out.len();
     let lines = answer_lines(
         before,
-        begun,
+        accepted,
         sum,
         archive,
         pool,
@@ -367,11 +367,11 @@ pub fn finish(
     let line = text::ended(reader);
     let kept = line.kept;
     let state = runner.state;
-    let before = runner.tally;
+    let sum = runner.tally;
     let last = answer_lines(
         state,
         runner.started,
-        before,
+        sum,
         archive,
         pool,
         groups,

@@ -51,6 +51,10 @@ lengthsKept s = lengthsOf (s .memory)
 abbrev pub Promises : Call → Kept → Answer → Kept → Type 0
 Promises c s a t = Promise store c s a t
 
+-- Calls made one after the other.
+abbrev pub Ran : Kept → List Call → Kept → Type 0
+Ran s calls t = (given : List Answer) × Run store s calls given t
+
 -- It gives, to every list of calls, the answers of a plain store and cache.
 abbrev pub AnswersAs : Kept → Model → Type 0
 AnswersAs s m = (u : Kept) (calls : List Call) (given : List Answer) → Run store s calls given u → given ≡ answersFrom (lengthsKept s) m calls

@@ -12,7 +12,7 @@ use lib.ListN.{length, getD, drop, drop-of-length-le}
 use lib.Seq.{drop-cons}
 use Rattle.text.specs.Parts.{Text}
 use Rattle.text.specs.declared.Number.the-variants.{Is, Not}
-use Rattle.text.specs.Numbers.{isDigit, allDigits, valueOf, isNumber, numberIn}
+use Rattle.text.specs.Numbers.{isDigit, allDigits, valueOf, isNumber, fieldNumber}
 
 both-true : (a b : Bool) → (a && b) ≡ true → (a ≡ true) × (b ≡ true)
 both-true true b e = (refl, e)
@@ -48,19 +48,19 @@ pub record Reading (field : Text) (i value : ℕ) : Type 0 where
 pub reading-start : (field : Text) → Reading field 0 0
 reading-start field = record { few = omega arith; same = refl; digits = refl; small = omega arith }
 
-not-number : (field : Text) → isNumber field ≡ false → Not ≡ numberIn field
-unfolding numberIn
+not-number : (field : Text) → isNumber field ≡ false → Not ≡ fieldNumber field
+unfolding fieldNumber
 not-number field e = sym (ap (λ (t : Bool). cond t (Is (valueOf 0 field)) Not) e)
 
 module _ (field : Text) where
   abbrev rest : Bool
   rest = allDigits field && leb (valueOf 0 field) 4294967295
 
-  pub number-empty : length field ≡ 0 → Not ≡ numberIn field
+  pub number-empty : length field ≡ 0 → Not ≡ fieldNumber field
   unfolding isNumber
   number-empty e = not-number field (ap (λ (t : Bool). (t && leb (length field) 10) && rest) (lt-leb 1 (length field) (omega arith)))
 
-  pub number-long : 10 < length field → Not ≡ numberIn field
+  pub number-long : 10 < length field → Not ≡ fieldNumber field
   unfolding isNumber
   number-long h =
       not-number field (ap (λ (t : Bool). (leb 1 (length field) && t) && rest) (lt-leb (length field) 10 h) ∙ ap (λ (t : Bool). t && rest) (and-false (leb 1 (length field))))
@@ -73,7 +73,7 @@ module _ (field : Text) where
     here h = drop-cons field i 0 h
 
     -- a byte that is no digit
-    pub number-other : (b : Bool) → i < length field → b ≡ isDigit (getD field i 0) → not b ≡ true → Not ≡ numberIn field
+    pub number-other : (b : Bool) → i < length field → b ≡ isDigit (getD field i 0) → not b ≡ true → Not ≡ fieldNumber field
     unfolding isNumber allDigits
     number-other b h e t =
         let none : allDigits field ≡ false =
@@ -114,15 +114,15 @@ module _ (field : Text) where
     unfolding valueOf
     whole h = r .same ∙ ap (valueOf value) (drop-of-length-le field {i = i} h)
 
-    pub number-large : length field ≤ i → 4294967295 < value → Not ≡ numberIn field
+    pub number-large : length field ≤ i → 4294967295 < value → Not ≡ fieldNumber field
     unfolding isNumber
     number-large h b =
         not-number field
         (ap (λ (s : Bool). counted && (allDigits field && s)) (ap (λ (x : ℕ). leb x 4294967295) (whole h) ∙ lt-leb value 4294967295 b)
         ∙ (ap (λ (s : Bool). counted && s) (and-false (allDigits field)) ∙ and-false counted))
 
-    pub number-is : length field ≢ 0 → length field ≤ 10 → length field ≤ i → value ≤ 4294967295 → Is value ≡ numberIn field
-    unfolding isNumber numberIn
+    pub number-is : length field ≢ 0 → length field ≤ 10 → length field ≤ i → value ≤ 4294967295 → Is value ≡ fieldNumber field
+    unfolding isNumber fieldNumber
     number-is some few h b =
         sym
         (ap₂ (λ (s t : Bool). cond ((s && t) && rest) (Is (valueOf 0 field)) Not) (le-leb 1 (length field) (omega arith)) (le-leb (length field) 10 few)

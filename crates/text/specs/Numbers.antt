@@ -24,8 +24,8 @@ valueOf v (b ∷ bs) = valueOf (v * 10 + (b - 48)) bs
 unfoldable pub isNumber : Text → Bool
 isNumber field = (leb 1 (length field) && leb (length field) 10) && (allDigits field && leb (valueOf 0 field) 4294967295)
 
-unfoldable pub numberIn : Text → Number
-numberIn field = cond (isNumber field) (Is (valueOf 0 field)) Not
+unfoldable pub fieldNumber : Text → Number
+fieldNumber field = cond (isNumber field) (Is (valueOf 0 field)) Not
 
 -- The decimal digits of a number without leading zeros, before some text. So many digits are enough for any 64-bit number.
 unfoldable pub digitsBefore : (most n : ℕ) → Text → Text

@@ -1,4 +1,4 @@
-// Text in bytes: numbers read and written, and lines of any length read byte by byte.
+// Text in bytes: numbers read and written, where a part ends, and the beginning of a line that a chunk's end cuts.
 ghost use mathlib.Core.Path.{_≡_};
 ghost use mathlib.Core.List.{[]};
 ghost use mathlib.Core.Bool.{true};
@@ -7,7 +7,7 @@ ghost use lib.ListN.{length, drop};
 ghost use Rattle.text.specs.Parts.{upTo};
 ghost use Rattle.text.specs.Output.{Puts};
 ghost use Rattle.text.specs.Lines.{Holds, Extends, Ended};
-ghost use Rattle.text.specs.Numbers.{isDigit, numberIn, decimal};
+ghost use Rattle.text.specs.Numbers.{isDigit, fieldNumber, decimal};
 
 // What a field says as a number.
 pub enum Number {
@@ -38,7 +38,7 @@ fn digit_value(b: u8) -> u64
 
 // The number that a field of 1 to 10 digits says, if it is at most 4,294,967,295.
 pub fn read_number(field: &[u8]) -> Number
-    ensures { λ r. ⌜ r ≡ numberIn (now (field .entry)) ⌝ }
+    ensures { λ r. ⌜ r ≡ fieldNumber (now (field .entry)) ⌝ }
 {
     let count = field.len();
     if count == 0 {

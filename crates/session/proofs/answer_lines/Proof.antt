@@ -92,6 +92,9 @@ loop-less-2 c = search turn-less
 
 loop-again-2 : tie.Need-loop-again-2 Inv-loop μ-loop
 loop-again-2 c =
+    let s : tie.After-tallied Inv-loop μ-loop = search in
+    let p : tie.After-put-answer Inv-loop μ-loop = search in
+    let t : tie.Then3 Inv-loop μ-loop = search in
     let e : tie.Else2 Inv-loop μ-loop = search in
     search (
       turn-down,
@@ -100,10 +103,10 @@ loop-again-2 c =
       e .before .if1 .left,
       e .before .before .before .loop-test .taken,
       e .if2 .left,
-      c .before .before .before .before .before .before .ask .ensures,
-      c .before .before .before .before .before .if3 .taken,
-      c .before .before .before .put-answer .ensures,
-      c .tallied .ensures,
+      t .before .ask .ensures,
+      t .if3 .taken,
+      p .put-answer .ensures,
+      s .tallied .ensures,
     )
 
 call-requires : tie.Need-call-requires Inv-loop μ-loop

@@ -1,6 +1,6 @@
 -- `session::is_other` meets its contract. Assumes nothing.
 use mathlib.Core.Path.{refl}
-use Rattle.session.specs.Between.{isOther}
+use Rattle.session.specs.Transcript.{isOther}
 use Rattle.session.proofs.Asking.{other-of}
 use borrow.Author.Needs.{needs}
 use Rattle.session.proofs.is_other.Statement.{statement}

@@ -66,7 +66,8 @@ typedef struct vcm_cache {
     uint8_t last[16];    /* 736: for each set, the way used last */
 } vcm_cache;
 
-/* The settings and the registers of a store. Size 28, alignment 4. */
+/* The settings and the registers of a store. The pool's pages are used in a circle: the needed ones lie next to each other, those of older
+ * frames first. Size 32, alignment 4. */
 typedef struct vcm_registers {
     uint32_t lines;  /*  0: L, or 0 in the blank state */
     uint32_t frames; /*  4: F */
@@ -74,13 +75,14 @@ typedef struct vcm_registers {
     uint32_t cmf;    /* 12: the current frame */
     uint32_t omf;    /* 16: the oldest frame */
     uint32_t tag;    /* 20: the tag of the written bits set now */
-    uint32_t hint;   /* 24: where the search for a free page starts */
+    uint32_t first;  /* 24: the page where the needed ones start */
+    uint32_t used;   /* 28: how many are needed from there on, round the pool */
 } vcm_registers;
 
-/* The state of a store. Size 780, alignment 4. */
+/* The state of a store. Size 784, alignment 4. */
 typedef struct vcm_state {
     vcm_registers registers; /*  0 */
-    vcm_cache cache;         /* 28 */
+    vcm_cache cache;         /* 32 */
 } vcm_state;
 
 /* What a store needs of each lent piece, in BYTES. Refused, every size is 0. Size 56, alignment 8. */
@@ -122,8 +124,8 @@ typedef struct vcm_verdict {
 
 VCM_STATIC_ASSERT(sizeof(size_t) == 8, "libvcm.a is built for 64 bits");
 VCM_STATIC_ASSERT(sizeof(vcm_cache) == 752, "vcm_cache");
-VCM_STATIC_ASSERT(sizeof(vcm_registers) == 28, "vcm_registers");
-VCM_STATIC_ASSERT(sizeof(vcm_state) == 780, "vcm_state");
+VCM_STATIC_ASSERT(sizeof(vcm_registers) == 32, "vcm_registers");
+VCM_STATIC_ASSERT(sizeof(vcm_state) == 784, "vcm_state");
 VCM_STATIC_ASSERT(sizeof(vcm_need) == 56, "vcm_need");
 VCM_STATIC_ASSERT(sizeof(vcm_reading) == 16, "vcm_reading");
 VCM_STATIC_ASSERT(sizeof(vcm_counted) == 12, "vcm_counted");
@@ -200,20 +202,20 @@ static inline vcm_verdict vcm_check(const vcm_state *state, const vcm_memory *me
  * value. A language without C's headers declares these.
  */
 
-/* The state after RESET, and its refusal or 0. Refused, the state is the one given. Size 784, alignment 4. */
+/* The state after RESET, and its refusal or 0. Refused, the state is the one given. Size 788, alignment 4. */
 typedef struct vcm_outcome {
     vcm_state state;  /*   0 */
-    uint32_t refusal; /* 780 */
+    uint32_t refusal; /* 784 */
 } vcm_outcome;
 
-/* The registers after a call, and its refusal or 0. Refused, they are the ones given. Size 32, alignment 4. */
+/* The registers after a call, and its refusal or 0. Refused, they are the ones given. Size 36, alignment 4. */
 typedef struct vcm_step {
     vcm_registers registers; /*  0 */
-    uint32_t refusal;        /* 28 */
+    uint32_t refusal;        /* 32 */
 } vcm_step;
 
-VCM_STATIC_ASSERT(sizeof(vcm_outcome) == 784, "vcm_outcome");
-VCM_STATIC_ASSERT(sizeof(vcm_step) == 32, "vcm_step");
+VCM_STATIC_ASSERT(sizeof(vcm_outcome) == 788, "vcm_outcome");
+VCM_STATIC_ASSERT(sizeof(vcm_step) == 36, "vcm_step");
 
 vcm_outcome vcm_raw_reset(vcm_state state, uint8_t *archive, size_t archive_len, const uint8_t *pool, size_t pool_len,
                           uint32_t *groups, size_t groups_len, const uint16_t *table, size_t table_len, const uint32_t *owners,

@@ -1,8 +1,9 @@
 #!/usr/bin/env python3
 """The account of rust/account: reads callgrind's counts from a folder and prints where the instructions went.
 
-The folder has fine.out (a short replay of `fine` on ours), ours.out and chip.out (each call by itself), runner.out (the runner on the first lines of
-the long session), and beside each a .txt with the calls or lines made.
+The folder has fine.out and tight.out (short replays of these lists on ours), ours.out and chip-rust.out (each call by itself), for each of the two PEER
+also PEER-64.out and PEER-4096.out (calls with a full pool of so many pages), runner.out (the runner on the first lines of the long session), and beside
+each a .txt with the calls or lines made.
 """
 import re
 import sys
@@ -52,9 +53,10 @@ def numbers(path):
     return {words[0]: int(words[1]) for words in map(str.split, path.read_text().splitlines())}
 
 
-def shares(folder):
-    own, called, times = counts(folder / "fine.out")
-    calls = numbers(folder / "fine.txt")["calls"]
+def shares(folder, workload):
+    """Prints the shares of a replay; the instructions of one call of its list."""
+    own, called, times = counts(folder / f"{workload}.out")
+    calls = numbers(folder / f"{workload}.txt")["calls"]
     rows, often = Counter(), Counter()
     for name, cost in own.items():
         if short(name) not in ("memcpy", "memset"):
@@ -65,12 +67,13 @@ def shares(folder):
             rows[name] += cost
             often[name] += times[caller, callee]
     total = sum(rows.values())
-    print(f"fine on ours: {total / calls:.0f} instructions a call of the list, {calls} calls")
+    print(f"{workload} on ours: {total / calls:.0f} instructions a call of the list, {calls} calls")
     print(f"{'share':>7} {'a call':>8}  function")
     for name, cost in rows.most_common():
         if cost * 1000 >= total:
             more = f", {often[name] / calls:.1f} times" if often[name] else ""
             print(f"{100 * cost / total:6.1f}% {cost / calls:8.1f}  {name}{more}")
+    return total / calls
 
 
 CASES = {
@@ -83,22 +86,40 @@ CASES = {
     "sweep": "ROLLBACK(1) that sweeps",
     "advance": "ADVANCE(4)",
 }
+FULL = {
+    "counts": "COUNTS",
+    "refused_write": "WRITE refused with 13",
+    "write_again": "WRITE, first after ROLLBACK(1) and MARK",
+    "rollback": "ROLLBACK(1) without sweep",
+}
+
+
+def costs(folder, name):
+    """For each case of a run the instructions of one call."""
+    _, called, _ = counts(folder / f"{name}.out")
+
+    def cost(case):
+        # what its callers count of the loop that makes the calls, the loop's own few instructions included
+        return sum(c for (_, callee), c in called.items() if callee.endswith(f"::call_{case}"))
+
+    return {case: cost(case) / made for case, made in numbers(folder / f"{name}.txt").items()}
 
 
 def cases(folder):
-    table = {}
-    for peer in ("ours", "chip"):
-        _, called, _ = counts(folder / f"{peer}.out")
-        made = numbers(folder / f"{peer}.txt")
-        for case in CASES:
-            # what its callers count of the loop that makes the calls, the loop's own few instructions included
-            cost = sum(c for (_, callee), c in called.items() if callee.endswith(f"::call_{case}"))
-            table[peer, case] = cost / made[case]
+    ours, chip = (costs(folder, peer) for peer in ("ours", "chip-rust"))
     print("instructions for one call (L 4096, F 64, P 512, 32 live frames)")
     print(f"{'ours':>10} {'chip-rust':>10} {'ratio':>7}  call")
     for case, words in CASES.items():
-        ours, chip = table["ours", case], table["chip", case]
-        print(f"{ours:10.0f} {chip:10.0f} {ours / chip:7.1f}  {words}")
+        print(f"{ours[case]:10.0f} {chip[case]:10.0f} {ours[case] / chip[case]:7.1f}  {words}")
+
+
+def full(folder):
+    print("the same with all pages needed, P 64 and P 4096; ratio: the second over the first")
+    print(f"{'ours 64':>10} {'4096':>10} {'ratio':>7} {'chip 64':>10} {'4096':>10} {'ratio':>7}  call")
+    runs = [(costs(folder, f"{peer}-64"), costs(folder, f"{peer}-4096")) for peer in ("ours", "chip-rust")]
+    for case, words in FULL.items():
+        parts = [f"{few[case]:10.0f} {many[case]:10.0f} {many[case] / few[case]:7.2f}" for few, many in runs]
+        print(f"{' '.join(parts)}  {words}")
 
 
 def runner(folder):
@@ -109,9 +130,14 @@ def runner(folder):
 
 def main():
     folder = Path(sys.argv[1])
-    shares(folder)
+    fine = shares(folder, "fine")
+    print()
+    tight = shares(folder, "tight")
+    print(f"tight over fine: {tight / fine:.2f}")
     print()
     cases(folder)
+    print()
+    full(folder)
     print()
     runner(folder)
 

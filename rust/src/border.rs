@@ -39,8 +39,10 @@ pub struct Registers {
     pub omf: u32,
     /// The tag of the written bits that are set now.
     pub tag: u32,
-    /// Where the search for a free page starts.
-    pub hint: u32,
+    /// The page where the needed ones start.
+    pub first: u32,
+    /// How many pages are needed from there on, round the pool.
+    pub used: u32,
 }
 
 /// The state of a store.
@@ -138,17 +140,18 @@ const _: () = {
     assert!(offset_of!(Cache, valid) == 192);
     assert!(offset_of!(Cache, bytes) == 224);
     assert!(offset_of!(Cache, last) == 736);
-    assert!(size_of::<Registers>() == 28 && align_of::<Registers>() == 4);
+    assert!(size_of::<Registers>() == 32 && align_of::<Registers>() == 4);
     assert!(offset_of!(Registers, lines) == 0);
     assert!(offset_of!(Registers, frames) == 4);
     assert!(offset_of!(Registers, pages) == 8);
     assert!(offset_of!(Registers, cmf) == 12);
     assert!(offset_of!(Registers, omf) == 16);
     assert!(offset_of!(Registers, tag) == 20);
-    assert!(offset_of!(Registers, hint) == 24);
-    assert!(size_of::<State>() == 780 && align_of::<State>() == 4);
+    assert!(offset_of!(Registers, first) == 24);
+    assert!(offset_of!(Registers, used) == 28);
+    assert!(size_of::<State>() == 784 && align_of::<State>() == 4);
     assert!(offset_of!(State, registers) == 0);
-    assert!(offset_of!(State, cache) == 28);
+    assert!(offset_of!(State, cache) == 32);
     assert!(size_of::<Need>() == 56 && align_of::<Need>() == 8);
     assert!(offset_of!(Need, refusal) == 0);
     assert!(offset_of!(Need, archive) == 8);
@@ -157,12 +160,12 @@ const _: () = {
     assert!(offset_of!(Need, table) == 32);
     assert!(offset_of!(Need, owners) == 40);
     assert!(offset_of!(Need, history) == 48);
-    assert!(size_of::<Outcome>() == 784 && align_of::<Outcome>() == 4);
+    assert!(size_of::<Outcome>() == 788 && align_of::<Outcome>() == 4);
     assert!(offset_of!(Outcome, state) == 0);
-    assert!(offset_of!(Outcome, refusal) == 780);
-    assert!(size_of::<Step>() == 32 && align_of::<Step>() == 4);
+    assert!(offset_of!(Outcome, refusal) == 784);
+    assert!(size_of::<Step>() == 36 && align_of::<Step>() == 4);
     assert!(offset_of!(Step, registers) == 0);
-    assert!(offset_of!(Step, refusal) == 28);
+    assert!(offset_of!(Step, refusal) == 32);
     assert!(size_of::<Reading>() == 16 && align_of::<Reading>() == 4);
     assert!(offset_of!(Reading, refusal) == 0);
     assert!(offset_of!(Reading, value) == 4);

@@ -90,7 +90,7 @@ fn put_value(
     cache::place(held, origins, valid, bytes, last, line, frame, content);
 }
 
-// WRITE: to the line's page in CMF, which is the one it has or, if none of its block is needed yet, one that is given out.
+// WRITE: to the line's page in CMF, which is the one that its block has there or the next of the ring.
 pub fn write(
     mut registers: Registers,
     held: &mut [u32; 32],
@@ -119,19 +119,8 @@ pub fn write(
         return Step { registers, refusal };
     }
     let live = frames::live(registers.cmf, registers.omf, registers.frames);
-    let choice = versions::page_for(
-        groups,
-        history,
-        table,
-        owners,
-        registers.lines,
-        registers.frames,
-        registers.omf,
-        registers.pages,
-        registers.hint,
-        registers.cmf,
-        address / 16,
-    );
+    let ring = storage::ring(registers);
+    let choice = versions::page_for(table, owners, ring, registers.cmf, address / 16);
     let found = choice.page;
     match found {
         Found::At(page) => {
@@ -154,7 +143,7 @@ pub fn write(
                 live,
                 page,
             );
-            registers.hint = choice.hint;
+            registers.used = choice.used;
             Step {
                 registers,
                 refusal: 0,

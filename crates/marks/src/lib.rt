@@ -41,7 +41,7 @@ pub fn mark(
 }
 
 // ROLLBACK: drops the k newest frames. No written bit is cleared, but for the sweep when the tags run out: the history masks them, and no
-// bit has the next tag.
+// bit has the next tag. The pages of the frames that stay come first in the ring.
 pub fn rollback(
     mut registers: Registers,
     origins: &[u16; 32],
@@ -63,6 +63,8 @@ pub fn rollback(
         return Step { registers, refusal };
     }
     let kept = frames::live(registers.cmf, registers.omf, registers.frames) - k;
+    let ring = storage::ring(registers);
+    let used = pages::segment::pages_below(owners, ring, kept);
     let tag = written::rollback(
         groups,
         history,
@@ -76,6 +78,7 @@ pub fn rollback(
     let cmf = (registers.cmf + registers.frames - k) % registers.frames;
     registers.cmf = cmf;
     registers.tag = tag;
+    registers.used = used;
     Step {
         registers,
         refusal: 0,
@@ -102,6 +105,8 @@ pub fn advance(
     if refusal != 0 {
         return Step { registers, refusal };
     }
+    let ring = storage::ring(registers);
+    let gone = pages::segment::pages_below(owners, ring, k);
     versions::fold(
         archive,
         pool,
@@ -125,13 +130,15 @@ pub fn advance(
     cache::collect(origins, registers.omf, registers.frames, k);
     let omf = (registers.omf + k) % registers.frames;
     registers.omf = omf;
+    registers.first = pages::segment::page_at(ring, gone);
+    registers.used = ring.used - gone;
     Step {
         registers,
         refusal: 0,
     }
 }
 
-// COUNTS: the pages needed are those held, which their owners confirm.
+// COUNTS: the pages needed are those of the ring.
 pub fn counts(
     registers: Registers,
     archive: &[u8],
@@ -153,19 +160,10 @@ pub fn counts(
         };
     }
     let live = frames::live(registers.cmf, registers.omf, registers.frames);
-    let held = pages::table::count_held(
-        groups,
-        history,
-        table,
-        owners,
-        registers.lines,
-        registers.frames,
-        registers.omf,
-        registers.pages,
-    );
+    let ring = storage::ring(registers);
     Counted {
         refusal: 0,
         live,
-        pages: held,
+        pages: ring.used,
     }
 }

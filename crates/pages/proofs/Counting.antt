@@ -1,19 +1,23 @@
 -- The places needed, counted round the circle, are the pages that Figure 2 counts frame by frame. Assumes nothing.
 use mathlib.Core.Path.{_≡_, refl, sym, _∙_, ap, ap₂}
-use mathlib.Core.Bool.{Bool, true, false, cond}
+use mathlib.Core.Bool.{Bool, true, false, cond, not, _&&_, and-true, and-false, false≢true}
 use Prim.Native.Nat.{ℕ, zero, suc, _+_, _-_, _*_, _%_, _≤_, _<_}
 use native.Mathlib.Nat.{add-zero, add-suc, add-assoc, add-comm, suc-mul, zero-add}
 use native.Mathlib.Omega.{arith}
-use lib.Arith.{digits-div, digits-mod}
+use native.Mathlib.Decide.{ℕ-discrete}
+use borrow.Author.Tests.{eq-eqb, ne-eqb, eqb-true}
+use lib.Dec.{eqb}
 use Rattle.rules.specs.Seen.{count, needs}
 use Rattle.rules.specs.Figure2.{pagesOf}
 use Rattle.rules.proofs.Count.{count-same, count-none, any-none, pages-same}
+use Rattle.rules.proofs.Tests.{both-true}
 use Rattle.rules.proofs.Circle.{reaches-index}
-use mathlib.Core.Logic.{inl, inr}
+use mathlib.Core.Logic.{_≢_, inl, inr}
 use Rattle.frames.specs.Circle.{indexOf}
 use Rattle.written.specs.Bits.{Written, effective}
 use Rattle.written.specs.Well.{WellBits}
-use Rattle.pages.specs.Table.{blocksOf, placesOf, neededAt}
+use Rattle.pages.specs.Table.{blocksOf, placesOf, placeAt, neededAt}
+use Rattle.pages.proofs.Needs.{needed-place, place-past}
 
 total : ℕ → (ℕ → ℕ) → ℕ
 total zero h = 0
@@ -82,15 +86,83 @@ total-pages blocks (suc n) rows =
     down : (n j : ℕ) → n - 1 - j ≡ suc n - 1 - suc j
     down n j = omega arith
 
+-- a test that fails from some number on is counted below it
+count-top : (n m : ℕ) (f : ℕ → Bool) → m ≤ n → ((i : ℕ) → m ≤ i → i < n → f i ≡ false) → count n f ≡ count m f
+count-top n m f h none =
+    let whole : n ≡ m + (n - m) = omega arith in
+    ap (λ (k : ℕ). count k f) whole
+    ∙ (count-add m (n - m) f
+    ∙ (ap (λ (k : ℕ). k + count m f) (count-none (n - m) (λ i. f (m + i)) (λ i b. none (m + i) (omega arith) (omega arith)))
+    ∙ zero-add (count m f)))
+
+-- one number more that passes is one more counted
+count-more : (n : ℕ) (f g : ℕ → Bool) (k : ℕ) → k < n → f k ≡ false → g k ≡ true → ((i : ℕ) → i ≢ k → f i ≡ g i) → count n g ≡ suc (count n f)
+unfolding count
+count-more zero f g k b p q same = absurd (omega arith)
+count-more (suc n) f g k b p q same = go (ℕ-discrete k n) (λ d. count-more n f g k (omega arith) p q same)
+  where
+    step : (s t : Bool) → s ≡ t → count n g ≡ suc (count n f) → cond t (suc (count n g)) (count n g) ≡ suc (cond s (suc (count n f)) (count n f))
+    step true true e h = ap suc h
+    step true false e h = absurd (mathlib.Core.Bool.true≢false e)
+    step false true e h = absurd (false≢true e)
+    step false false e h = h
+
+    go : Dec (k ≡ n) → (k ≢ n → count n g ≡ suc (count n f)) → cond (g n) (suc (count n g)) (count n g) ≡ suc (cond (f n) (suc (count n f)) (count n f))
+    go (yes e) ih =
+        ap (λ (t : Bool). cond t (suc (count n g)) (count n g)) (ap g (sym e) ∙ q)
+        ∙ (ap suc (count-same n g f (λ i c. sym (same i (λ z. omega arith))))
+        ∙ sym (ap (λ (t : Bool). suc (cond t (suc (count n f)) (count n f))) (ap f (sym e) ∙ p)))
+    go (no d) ih = step (f n) (g n) (same n (λ z. d (sym z))) (ih d)
+
+-- those that pass but one
+abbrev but : (ℕ → Bool) → ℕ → ℕ → Bool
+but test k x = test x && not (eqb x k)
+
+but-itself : (test : ℕ → Bool) (k x : ℕ) → x ≡ k → but test k x ≡ false
+but-itself test k x e = ap (λ (t : Bool). test x && not t) (eq-eqb x k e) ∙ and-false (test x)
+
+but-other : (test : ℕ → Bool) (k x : ℕ) → x ≢ k → but test k x ≡ test x
+but-other test k x d = ap (λ (t : Bool). test x && not t) (ne-eqb x k d) ∙ and-true (test x)
+
+-- Numbers that pass, named one by one and each once: they are as many as their names.
+pub count-names : (n : ℕ) (test : ℕ → Bool) (many : ℕ) (name : ℕ → ℕ) → ((i : ℕ) → i < many → (name i < n) × (test (name i) ≡ true))
+    → ((i j : ℕ) → i < many → j < many → name i ≡ name j → i ≡ j) → ((x : ℕ) → x < n → test x ≡ true → (i : ℕ) × (i < many) × (name i ≡ x)) → many ≡ count n test
+count-names n test zero name here once all = sym (count-none n test (λ x b. go x b (test x) refl))
+  where
+    go : (x : ℕ) → x < n → (t : Bool) → test x ≡ t → t ≡ false
+    go x b true e = absurd (omega (arith, all x b e .1))
+    go x b false e = refl
+count-names n test (suc many) name here once all =
+    ap suc (count-names n (but test (name many)) many name here-less (λ i j a b. once i j (omega arith) (omega arith)) all-less)
+    ∙ sym (count-more n (but test (name many)) test (name many) (here many (omega arith) .0) (but-itself test (name many) (name many) refl) (here many (omega arith) .1) (but-other test (name many)))
+  where
+    here-less : (i : ℕ) → i < many → (name i < n) × (but test (name many) (name i) ≡ true)
+    here-less i b =
+        let h = here i (omega arith) in
+        (h .0, but-other test (name many) (name i) (λ e. omega (arith, once i many (omega arith) (omega arith) e)) ∙ h .1)
+
+    all-less : (x : ℕ) → x < n → but test (name many) x ≡ true → (i : ℕ) × (i < many) × (name i ≡ x)
+    all-less x b e = go (ℕ-discrete x (name many))
+      where
+        go : Dec (x ≡ name many) → (i : ℕ) × (i < many) × (name i ≡ x)
+        go (yes d) = absurd (false≢true (sym (but-itself test (name many) x d) ∙ e))
+        go (no d) =
+            let h = all x b (sym (but-other test (name many) x d) ∙ e) in
+            (h .0, last (h .0) (h .1) (h .2) (ℕ-discrete (h .0) many), h .2)
+          where
+            last : (i : ℕ) → i < suc many → name i ≡ x → Dec (i ≡ many) → i < many
+            last i c z (yes q) = absurd (d (sym z ∙ ap name q))
+            last i c z (no q) = omega arith
+
 module _ (w : Written) (tag live : ℕ) (q : WellBits w tag live) (below : live ≤ w .frames) where
   abbrev row : ℕ → ℕ
   row i = count (blocksOf w) (needs (effective w i))
 
-  place-row : (r : ℕ) → count (blocksOf w) (λ b. neededAt w (r * blocksOf w + b)) ≡ row (indexOf (w .frames) (w .omf) r)
-  unfolding neededAt
+  -- a frame's places: its blocks, and past them none
+  place-row : (r : ℕ) → count 512 (λ b. neededAt w (placeAt r b)) ≡ row (indexOf (w .frames) (w .omf) r)
   place-row r =
-      count-same (blocksOf w) _ _
-      (λ b c. ap₂ (λ (x y : ℕ). needs (effective w (indexOf (w .frames) (w .omf) x)) y) (digits-div r c) (digits-mod r c))
+      count-top 512 (blocksOf w) (λ b. neededAt w (placeAt r b)) (omega (arith, q .lent .lines-few)) (place-past w r)
+      ∙ count-same (blocksOf w) _ _ (λ b c. needed-place w r b (q .lent .lines-few) c)
 
   empty-row : (k : ℕ) → live ≤ k → k < w .frames → row k ≡ 0
   unfolding needs
@@ -101,7 +173,7 @@ module _ (w : Written) (tag live : ℕ) (q : WellBits w tag live) (below : live 
   -- As many places are needed as Figure 2 needs pages.
   pub needed-pages : count (placesOf w) (neededAt w) ≡ pagesOf (blocksOf w) live (λ j. effective w (live - 1 - j))
   needed-pages =
-      count-rows (w .frames) (blocksOf w) (neededAt w)
+      count-rows (w .frames) 512 (neededAt w)
       ∙ (total-same (w .frames) _ _ (λ r b. place-row r)
       ∙ (total-circle (w .frames) (w .omf) row (q .lent .omf-below)
       ∙ (live-only ∙ total-pages (blocksOf w) live (effective w))))

@@ -1,182 +1,237 @@
--- Which places are needed after a write, a rollback, an advance and a reset, so that every needed place stays confirmed. Assumes nothing.
+-- What a write, a rollback, an advance and a reset keep of the ring over the written bits. Assumes nothing.
 use mathlib.Core.Path.{_≡_, refl, sym, _∙_, ap, ap₂}
-use mathlib.Core.Bool.{Bool, true, false, _&&_, _||_}
+use mathlib.Core.Bool.{Bool, true, false, _&&_, _||_, false≢true, or-true}
 use mathlib.Core.Logic.{_⊎_, inl, inr, _≢_}
 use mathlib.Core.List.{List}
-use Prim.Native.Nat.{ℕ, zero, suc, _+_, _*_, _/_, _%_, _≤_, _<_}
-use native.Mathlib.Nat.{le-refl, mul-le-mul, suc-mul, mod-lt, div-lt-iff-lt-mul, div-add-mod'}
+use Prim.Native.Nat.{ℕ, _+_, _-_, _*_, _/_, _%_, _≤_, _<_}
+use native.Mathlib.Nat.{mul-le-mul, le-refl, suc-mul}
+use native.Mathlib.Decide.{ℕ-discrete, decLt}
 use native.Mathlib.Omega.{arith}
-use borrow.Author.Tests.{eqb-true, ltb-true}
+use borrow.Author.Tests.{lt-ltb, eq-eqb, ltb-true, eqb-true}
 use lib.Arith.{digits-div, digits-mod}
 use lib.Dec.{eqb}
 use lib.ListN.{length, getD, set}
-use Rattle.rules.specs.Seen.{needs}
-use Rattle.rules.proofs.Count.{any-found, any-true}
 use Rattle.rules.proofs.Tests.{both-true}
-use Rattle.frames.specs.Circle.{frameAt, indexOf}
-use Rattle.frames.proofs.Circle.{index-frame, frame-below, index-below, frame-index}
+use Rattle.frames.specs.Circle.{indexOf, frameAt}
+use Rattle.frames.proofs.Circle.{frame-below, index-below, index-frame, frame-index}
 use Rattle.written.specs.Bits.{Written, Lent, Asks, effective}
 use Rattle.written.specs.Steps.{RolledBack}
 use Rattle.written.specs.Well.{WellBits}
 use Rattle.written.proofs.Setting.{set-effective, after}
 use Rattle.written.proofs.Rolling.{rolled, rolled-effective}
-use Rattle.written.proofs.Advancing.{advanced, advanced-effective, index-kept}
-use Rattle.written.proofs.Keeping.{started, started-effective}
-use Rattle.pages.specs.Table.{blocksOf, placesOf, placeAt, neededAt, heldAt, Confirmed, AsksTable}
-use Rattle.pages.proofs.Claiming.{fewer-confirmed, claim-confirmed}
-
--- A place is that of its frame and block,
-pub needed-place : (w : Written) (f b : ℕ) → b < blocksOf w → neededAt w (placeAt w f b) ≡ needs (effective w (indexOf (w .frames) (w .omf) f)) b
-unfolding neededAt placeAt
-needed-place w f b c = ap₂ (λ (x y : ℕ). needs (effective w (indexOf (w .frames) (w .omf) x)) y) (digits-div f c) (digits-mod f c)
-
--- and every place has its frame and block.
-pub place-parts : (w : Written) (y : ℕ) → y < placesOf w → (y / blocksOf w < w .frames) × (y % blocksOf w < blocksOf w) × (y ≡ placeAt w (y / blocksOf w) (y % blocksOf w))
-unfolding placeAt
-place-parts w y b =
-    let some : 0 < blocksOf w = positive (w .frames) (blocksOf w) y b in
-    (div-lt-iff-lt-mul some .1 b, mod-lt y some, sym (div-add-mod' y (blocksOf w)))
-  where
-    positive : (n m y : ℕ) → y < n * m → 0 < m
-    positive n zero y b = absurd (omega (arith, native.Mathlib.Nat.mul-zero n))
-    positive n (suc m) y b = omega arith
-
-pub place-within : (w : Written) (f b : ℕ) → f < w .frames → b < blocksOf w → placeAt w f b < placesOf w
-unfolding placeAt
-place-within w f b h c = omega (arith, mul-le-mul h (le-refl (blocksOf w)), suc-mul f (blocksOf w))
-
--- A needed block has a written line, and a written line's block is needed.
-needs-line : (row : ℕ → Bool) (b : ℕ) → needs row b ≡ true → (l : ℕ) × (l / 8 ≡ b) × (row l ≡ true)
-unfolding needs
-needs-line row b e =
-    let h = any-found 8 (λ i. row (b * 8 + i)) e in
-    (b * 8 + h .0, omega (arith, h .1), h .2)
-
-line-needs : (row : ℕ → Bool) (b l : ℕ) → l / 8 ≡ b → row l ≡ true → needs row b ≡ true
-unfolding needs
-line-needs row b l d e = any-true 8 (λ i. row (b * 8 + i)) (l % 8) (omega arith) (ap row (whole b l d) ∙ e)
-  where
-    whole : (b l : ℕ) → l / 8 ≡ b → b * 8 + l % 8 ≡ l
-    whole b l d = omega arith
-
-needed-line : (w : Written) (y : ℕ) → y < placesOf w → neededAt w y ≡ true
-    → (l : ℕ) × (l < w .lines) × (l / 8 ≡ y % blocksOf w) × (effective w (indexOf (w .frames) (w .omf) (y / blocksOf w)) l ≡ true)
-unfolding neededAt
-needed-line w y b e =
-    let h = needs-line (effective w (indexOf (w .frames) (w .omf) (y / blocksOf w))) (y % blocksOf w) e in
-    (h .0, omega (arith, h .1, place-parts w y b .1), h .1, h .2)
-
-line-needed : (w : Written) (y l : ℕ) → l / 8 ≡ y % blocksOf w → effective w (indexOf (w .frames) (w .omf) (y / blocksOf w)) l ≡ true → neededAt w y ≡ true
-unfolding neededAt
-line-needed w y l d e = line-needs (effective w (indexOf (w .frames) (w .omf) (y / blocksOf w))) (y % blocksOf w) l d e
-
--- The place of a line with an effective bit is needed.
-pub effective-needed : (w : Written) (i l : ℕ) → w .omf < w .frames → i < w .frames → l / 8 < blocksOf w → effective w i l ≡ true
-    → neededAt w (placeAt w (frameAt (w .frames) (w .omf) i) (l / 8)) ≡ true
-effective-needed w i l h b c e =
-    needed-place w (frameAt (w .frames) (w .omf) i) (l / 8) c
-    ∙ line-needs (effective w (indexOf (w .frames) (w .omf) (frameAt (w .frames) (w .omf) i))) (l / 8) l refl (ap (λ (k : ℕ). effective w k l) (index-frame (w .frames) (w .omf) h i b) ∙ e)
+use Rattle.written.proofs.Advancing.{advanced, advanced-effective, index-kept, frame-kept}
+use Rattle.pages.specs.Table.{blocksOf, placesOf, placeAt, entriesOf, entryOf, neededAt}
+use Rattle.pages.specs.Ring.{pageAt, Leading, ownerIndex, indexAt, WellRing}
+use Rattle.pages.proofs.Needs.{needed-block, needed-line, line-needed}
+use Rattle.pages.proofs.Halving.{index-own}
+use Rattle.pages.proofs.Moves.{claimed-ring, same-ring, kept-ring, passed-ring, empty-ring}
 
 either-true : (a b : Bool) → (a || b) ≡ true → (a ≡ true) ⊎ (b ≡ true)
 either-true true b e = inl refl
 either-true false b e = inr e
 
--- WRITE: a place needed afterwards is that of the line and frame written, or was needed before.
-pub set-needed : (w : Written) (tag l i : ℕ) (a : Asks w l i) (small : tag < 256) (open-tag : getD (w .history) tag 0 ≡ 65535) (y : ℕ) → y < placesOf w
-    → neededAt (after w tag l i a small open-tag) y ≡ true → (y ≡ placeAt w (frameAt (w .frames) (w .omf) i) (l / 8)) ⊎ (neededAt w y ≡ true)
-set-needed w tag l i a small open-tag y b e =
-    let h = needed-line (after w tag l i a small open-tag) y b e in
-    let k = index-below (w .frames) (w .omf) (a .lent .omf-below) (y / blocksOf w) in
-    go (h .0) (h .2) (either-true _ _ (sym (set-effective w tag l i a small open-tag (indexOf (w .frames) (w .omf) (y / blocksOf w)) (h .0) k (h .1)) ∙ h .3))
-  where
-    go : (m : ℕ) → m / 8 ≡ y % blocksOf w
-        → (effective w (indexOf (w .frames) (w .omf) (y / blocksOf w)) m ≡ true) ⊎ ((eqb (indexOf (w .frames) (w .omf) (y / blocksOf w)) i && eqb m l) ≡ true)
-        → (y ≡ placeAt w (frameAt (w .frames) (w .omf) i) (l / 8)) ⊎ (neededAt w y ≡ true)
-    go m d (inl s) = inr (line-needed w y m d s)
-    go m d (inr s) =
-        let t = both-true _ _ s in
-        let p = place-parts w y b in
-        let f : y / blocksOf w ≡ frameAt (w .frames) (w .omf) i =
-        sym (frame-index (w .frames) (w .omf) (a .lent .omf-below) (y / blocksOf w) (p .0)) ∙ ap (frameAt (w .frames) (w .omf)) (eqb-true _ i (t .0))
-        in
-        inl (p .2 ∙ ap₂ (placeAt w) f (sym d ∙ ap (λ (x : ℕ). x / 8) (eqb-true m l (t .1))))
+-- the index that the code computes is that of the frame
+pub owner-index : (n omf x : ℕ) → x / 512 < n → ownerIndex n omf x ≡ indexOf n omf (x / 512)
+owner-index n omf x b = sym (index-own n omf x b)
 
--- ROLLBACK and ADVANCE: a place needed afterwards was needed before.
-pub rolled-needed : (w : Written) (tag kept live : ℕ) (q : WellBits w tag live) (groups history : List ℕ) (next : ℕ) (r : RolledBack w tag kept groups history next)
-    (y : ℕ) → y < placesOf w → neededAt (rolled w tag kept live q groups history next r) y ≡ true → neededAt w y ≡ true
-rolled-needed w tag kept live q groups history next r y b e =
-    let h = needed-line (rolled w tag kept live q groups history next r) y b e in
-    let k = index-below (w .frames) (w .omf) (q .lent .omf-below) (y / blocksOf w) in
-    line-needed w y (h .0) (h .2)
-    (both-true _ _ (sym (rolled-effective w tag kept live q groups history next r (indexOf (w .frames) (w .omf) (y / blocksOf w)) (h .0) k (h .1)) ∙ h .3) .0)
+-- ROLLBACK: the places needed afterwards are those needed before with an index below the target.
+module _ (w : Written) (tag kept live : ℕ) (q : WellBits w tag live) (groups history : List ℕ) (next : ℕ) (r : RolledBack w tag kept groups history next) where
+  abbrev back : Written
+  back = rolled w tag kept live q groups history next r
 
-pub advanced-needed : (w : Written) (lent : Lent w) (k : ℕ) (below : k < w .frames) (y : ℕ) → y < placesOf w → neededAt (advanced w lent k below) y ≡ true → neededAt w y ≡ true
-advanced-needed w lent k below y b e =
-    let h = needed-line (advanced w lent k below) y b e in
-    let f : ℕ = y / blocksOf w in
-    let start : ℕ = frameAt (w .frames) (w .omf) k in
-    let at : start < w .frames = frame-below (w .frames) (w .omf) (lent .omf-below) k in
-    let j : ℕ = indexOf (w .frames) start f in
-    let t = both-true _ _ (sym (advanced-effective w lent k below j (h .0) (index-below (w .frames) start at f) (h .1)) ∙ h .3) in
-    let same : indexOf (w .frames) (w .omf) f ≡ k + j =
-    ap (indexOf (w .frames) (w .omf)) (sym (frame-index (w .frames) start at f (place-parts w y b .0)))
-    ∙ index-kept (w .frames) (w .omf) k (lent .omf-below) j (ltb-true (k + j) (w .frames) (t .0))
-    in
-    line-needed w y (h .0) (h .2) (ap (λ (x : ℕ). effective w x (h .0)) same ∙ t .1)
+  index-is : (x : ℕ) → x < placesOf w → ownerIndex (w .frames) (w .omf) x ≡ indexOf (w .frames) (w .omf) (x / 512)
+  index-is x b = owner-index (w .frames) (w .omf) x (omega arith)
 
--- RESET: no place is needed.
-module _ (lines frames : ℕ) (groups history : List ℕ) (some-lines : 0 < lines) (few-lines : lines ≤ 4096) (by : frames % 16 ≡ 0) (some-frames : 0 < frames) (few-frames : frames ≤ 4096)
-    (enough : frames / 16 * lines ≤ length groups) (entries : 256 ≤ length history) where
-  abbrev start : Written
-  start = started lines frames groups history some-lines few-lines by some-frames few-frames enough entries
+  rolled-only : (x : ℕ) → x < placesOf w → neededAt back x ≡ true → (neededAt w x ≡ true) × (ownerIndex (w .frames) (w .omf) x < kept)
+  rolled-only x b e =
+      let h = needed-line back x e in
+      let k = index-below (w .frames) (w .omf) (q .lent .omf-below) (x / 512) in
+      let t = both-true _ _ (sym (rolled-effective w tag kept live q groups history next r (indexOf (w .frames) (w .omf) (x / 512)) (h .0) k (h .1)) ∙ h .3) in
+      (line-needed w x (h .0) (needed-block back x e) (h .2) (t .0), omega (arith, index-is x b, ltb-true _ kept (t .1)))
 
-  pub started-needed : (y : ℕ) → y < placesOf start → neededAt start y ≢ true
-  started-needed y b e =
-      let h = needed-line start y b e in
-      mathlib.Core.Bool.false≢true
-      (sym (started-effective lines frames groups history some-lines few-lines by some-frames few-frames enough entries (indexOf frames 0 (y / blocksOf start)) (h .0) (h .1)) ∙ h .3)
+  rolled-keeps : (x : ℕ) → x < placesOf w → neededAt w x ≡ true → ownerIndex (w .frames) (w .omf) x < kept → neededAt back x ≡ true
+  rolled-keeps x b e l =
+      let h = needed-line w x e in
+      let k = index-below (w .frames) (w .omf) (q .lent .omf-below) (x / 512) in
+      line-needed back x (h .0) (needed-block w x e) (h .2)
+      (rolled-effective w tag kept live q groups history next r (indexOf (w .frames) (w .omf) (x / 512)) (h .0) k (h .1)
+      ∙ ap₂ (λ (s t : Bool). s && t) (h .3) (lt-ltb (indexOf (w .frames) (w .omf) (x / 512)) kept (omega (arith, index-is x b))))
 
-  -- so that table and owners may hold anything.
-  pub started-confirmed : (pages : ℕ) (table owners : ℕ → ℕ) → Confirmed (neededAt start) (placesOf start) pages table owners
-  started-confirmed pages table owners y b e = absurd (started-needed y b e)
+  -- by what the search by halving found
+  pub rolled-ring : (pages first used left : ℕ) (table owners : List ℕ) → WellRing w pages first used table owners
+      → Leading used (indexAt (w .frames) (w .omf) pages first owners) kept left → WellRing back pages first left table owners
+  unfolding indexAt
+  rolled-ring pages first used left table owners o found =
+      kept-ring (neededAt w) (neededAt back) (placesOf w) pages first used left kept _ _ _ o (found .exact (o .rising)) rolled-only rolled-keeps
 
--- Every needed place stays confirmed: after a write to a place that has its page,
-module _ (w : Written) (tag l i : ℕ) (a : Asks w l i) (small : tag < 256) (open-tag : getD (w .history) tag 0 ≡ 65535) (pages : ℕ) where
-  abbrev place : ℕ
-  place = placeAt w (frameAt (w .frames) (w .omf) i) (l / 8)
+-- ADVANCE: those needed before with an index from k on, which goes down by k.
+module _ (w : Written) (lent : Lent w) (k : ℕ) (below : k < w .frames) where
+  abbrev on : Written
+  on = advanced w lent k below
 
+  abbrev start : ℕ
+  start = frameAt (w .frames) (w .omf) k
+
+  start-below : start < w .frames
+  start-below = frame-below (w .frames) (w .omf) (lent .omf-below) k
+
+  -- a frame's index from the new OMF
+  index-down : (f : ℕ) → f < w .frames → k ≤ indexOf (w .frames) (w .omf) f → k + indexOf (w .frames) start f ≡ indexOf (w .frames) (w .omf) f
+  index-down f b h =
+      let i : ℕ = indexOf (w .frames) (w .omf) f in
+      let few = index-below (w .frames) (w .omf) (lent .omf-below) f in
+      let whole : k + (i - k) ≡ i = omega arith in
+      let here : frameAt (w .frames) start (i - k) ≡ f =
+      frame-kept (w .frames) (w .omf) k (lent .omf-below) (i - k) ∙ (ap (frameAt (w .frames) (w .omf)) whole ∙ frame-index (w .frames) (w .omf) (lent .omf-below) f b)
+      in
+      let same : indexOf (w .frames) start f ≡ i - k =
+      ap (indexOf (w .frames) start) (sym here) ∙ index-frame (w .frames) start start-below (i - k) (omega arith)
+      in
+      omega arith
+
+  index-up : (f : ℕ) → f < w .frames → k + indexOf (w .frames) start f < w .frames → indexOf (w .frames) (w .omf) f ≡ k + indexOf (w .frames) start f
+  index-up f b h =
+      ap (indexOf (w .frames) (w .omf)) (sym (frame-index (w .frames) start start-below f b))
+      ∙ index-kept (w .frames) (w .omf) k (lent .omf-below) (indexOf (w .frames) start f) h
+
+  before-is : (x : ℕ) → x < placesOf w → ownerIndex (w .frames) (w .omf) x ≡ indexOf (w .frames) (w .omf) (x / 512)
+  before-is x b = owner-index (w .frames) (w .omf) x (omega arith)
+
+  after-is : (x : ℕ) → x < placesOf w → ownerIndex (w .frames) start x ≡ indexOf (w .frames) start (x / 512)
+  after-is x b = owner-index (w .frames) start x (omega arith)
+
+  advanced-only : (x : ℕ) → x < placesOf w → neededAt on x ≡ true → (neededAt w x ≡ true) × (k ≤ ownerIndex (w .frames) (w .omf) x)
+  advanced-only x b e =
+      let h = needed-line on x e in
+      let j : ℕ = indexOf (w .frames) start (x / 512) in
+      let t = both-true _ _ (sym (advanced-effective w lent k below j (h .0) (index-below (w .frames) start start-below (x / 512)) (h .1)) ∙ h .3) in
+      let same = index-up (x / 512) (omega arith) (ltb-true (k + j) (w .frames) (t .0)) in
+      (line-needed w x (h .0) (needed-block on x e) (h .2) (ap (λ (z : ℕ). effective w z (h .0)) same ∙ t .1), omega (arith, before-is x b))
+
+  advanced-keeps : (x : ℕ) → x < placesOf w → neededAt w x ≡ true → k ≤ ownerIndex (w .frames) (w .omf) x → neededAt on x ≡ true
+  advanced-keeps x b e l =
+      let h = needed-line w x e in
+      let j : ℕ = indexOf (w .frames) start (x / 512) in
+      let same : k + j ≡ indexOf (w .frames) (w .omf) (x / 512) = index-down (x / 512) (omega arith) (omega (arith, before-is x b)) in
+      line-needed on x (h .0) (needed-block w x e) (h .2)
+      (advanced-effective w lent k below j (h .0) (index-below (w .frames) start start-below (x / 512)) (h .1)
+      ∙ ap₂ (λ (s t : Bool). s && t) (lt-ltb (k + j) (w .frames) (omega (arith, index-below (w .frames) (w .omf) (lent .omf-below) (x / 512)))) (ap (λ (z : ℕ). effective w z (h .0)) same ∙ h .3))
+
+  advanced-down : (x : ℕ) → x < placesOf w → neededAt w x ≡ true → k ≤ ownerIndex (w .frames) (w .omf) x
+      → k + ownerIndex (w .frames) start x ≡ ownerIndex (w .frames) (w .omf) x
+  advanced-down x b e l =
+      omega (arith, before-is x b, after-is x b, index-down (x / 512) (omega arith) (omega (arith, before-is x b)))
+
+  pub advanced-ring : (pages first used gone : ℕ) (table owners : List ℕ) → WellRing w pages first used table owners
+      → Leading used (indexAt (w .frames) (w .omf) pages first owners) k gone → WellRing on pages (pageAt pages first gone) (used - gone) table owners
+  unfolding indexAt
+  advanced-ring pages first used gone table owners o found =
+      passed-ring (neededAt w) (neededAt on) (placesOf w) pages first used gone k _ _ _ _ o (found .exact (o .rising)) advanced-only advanced-keeps advanced-down
+
+-- WRITE to a line in the newest live frame.
+module _ (w : Written) (tag l i : ℕ) (a : Asks w l i) (small : tag < 256) (open-tag : getD (w .history) tag 0 ≡ 65535) (by : w .lines % 8 ≡ 0) where
   abbrev then : Written
   then = after w tag l i a small open-tag
 
-  pub set-confirmed : (table owners : ℕ → ℕ) → neededAt w place ≡ true → Confirmed (neededAt w) (placesOf w) pages table owners
-      → Confirmed (neededAt then) (placesOf w) pages table owners
-  set-confirmed table owners own c = fewer-confirmed (neededAt w) (neededAt then) (placesOf w) pages table owners less c
+  abbrev frame : ℕ
+  frame = frameAt (w .frames) (w .omf) i
+
+  abbrev place : ℕ
+  place = placeAt frame (l / 8)
+
+  frame-few : frame < w .frames
+  frame-few = frame-below (w .frames) (w .omf) (a .lent .omf-below) i
+
+  block-few : l / 8 < blocksOf w
+  block-few = omega (arith, a .line-below)
+
+  place-its-frame : place / 512 ≡ frame
+  place-its-frame = omega (arith, block-few, a .lent .lines-few)
+
+  place-its-block : place % 512 ≡ l / 8
+  place-its-block = omega (arith, block-few, a .lent .lines-few)
+
+  place-below : place < placesOf w
+  place-below = omega (arith, frame-few, block-few, a .lent .lines-few)
+
+  set-grows : (x : ℕ) → x < placesOf w → neededAt w x ≡ true → neededAt then x ≡ true
+  set-grows x b e =
+      let h = needed-line w x e in
+      line-needed then x (h .0) (needed-block w x e) (h .2)
+      (set-effective w tag l i a small open-tag (indexOf (w .frames) (w .omf) (x / 512)) (h .0) (index-below (w .frames) (w .omf) (a .lent .omf-below) (x / 512)) (h .1)
+      ∙ ap (λ (t : Bool). t || (eqb (indexOf (w .frames) (w .omf) (x / 512)) i && eqb (h .0) l)) (h .3))
+
+  set-only : (x : ℕ) → x < placesOf w → x ≢ place → neededAt then x ≡ true → neededAt w x ≡ true
+  set-only x b d e =
+      let h = needed-line then x e in
+      go (h .0) (h .2)
+      (either-true _ _ (sym (set-effective w tag l i a small open-tag (indexOf (w .frames) (w .omf) (x / 512)) (h .0) (index-below (w .frames) (w .omf) (a .lent .omf-below) (x / 512)) (h .1)) ∙ h .3))
     where
-      less : (y : ℕ) → y < placesOf w → neededAt then y ≡ true → neededAt w y ≡ true
-      less y b e = elim (set-needed w tag l i a small open-tag y b e) [ inl d ↦ ap (neededAt w) d ∙ own | inr s ↦ s ]
+      go : (m : ℕ) → m / 8 ≡ x % 512 → (effective w (indexOf (w .frames) (w .omf) (x / 512)) m ≡ true) ⊎ ((eqb (indexOf (w .frames) (w .omf) (x / 512)) i && eqb m l) ≡ true)
+          → neededAt w x ≡ true
+      go m c (inl s) = line-needed w x m (needed-block then x e) c s
+      go m c (inr s) =
+          let t = both-true _ _ s in
+          let f : x / 512 ≡ frame =
+          sym (frame-index (w .frames) (w .omf) (a .lent .omf-below) (x / 512) (omega arith)) ∙ ap (frameAt (w .frames) (w .omf)) (eqb-true _ i (t .0))
+          in
+          absurd (d (omega (arith, f, c, eqb-true m l (t .1))))
 
-  -- or that claims a free one,
-  pub claimed-confirmed : (table owners : List ℕ) (p : ℕ) → AsksTable w table → p < length owners → p < pages → heldAt w table owners p ≡ false
-      → Confirmed (neededAt w) (placesOf w) pages (λ y. getD table y 0) (λ q. getD owners q 0)
-      → Confirmed (neededAt then) (placesOf w) pages (λ y. getD (set table place p) y 0) (λ q. getD (set owners p place) q 0)
-  unfolding heldAt
-  claimed-confirmed table owners p ask few below free c =
-      claim-confirmed (neededAt w) (neededAt then) (placesOf w) pages place p table owners (omega (arith, ask .table-long, place-below)) few below free (set-needed w tag l i a small open-tag) c
+  set-then : neededAt then place ≡ true
+  set-then =
+      let is : indexOf (w .frames) (w .omf) (place / 512) ≡ i = ap (indexOf (w .frames) (w .omf)) place-its-frame ∙ index-frame (w .frames) (w .omf) (a .lent .omf-below) i (a .index-below) in
+      line-needed then place l (omega (arith, place-its-block, block-few)) (sym place-its-block)
+      (set-effective w tag l i a small open-tag (indexOf (w .frames) (w .omf) (place / 512)) l (index-below (w .frames) (w .omf) (a .lent .omf-below) (place / 512)) (a .line-below)
+      ∙ (ap (λ (t : Bool). effective w (indexOf (w .frames) (w .omf) (place / 512)) l || t) (ap₂ (λ (s t : Bool). s && t) (eq-eqb _ i is) (eq-eqb l l refl)) ∙ or-true (effective w (indexOf (w .frames) (w .omf) (place / 512)) l)))
+
+  -- a place that has its page keeps it,
+  pub set-ring : (pages first used : ℕ) (table owners : List ℕ) → neededAt w place ≡ true → WellRing w pages first used table owners → WellRing then pages first used table owners
+  set-ring pages first used table owners own r =
+      same-ring (neededAt w) (neededAt then) (placesOf w) pages first used _ _ _ r (λ x b e. go x b e (ℕ-discrete x place)) set-grows
     where
-      place-below : place < placesOf w
-      place-below =
-          place-within w (frameAt (w .frames) (w .omf) i) (l / 8) (frame-below (w .frames) (w .omf) (a .lent .omf-below) i)
-          (omega (arith, ask .lines-by, a .line-below))
+      go : (x : ℕ) → x < placesOf w → neededAt then x ≡ true → Dec (x ≡ place) → neededAt w x ≡ true
+      go x b e (yes d) = ap (neededAt w) d ∙ own
+      go x b e (no d) = set-only x b d e
 
--- after a rollback
-pub rolled-confirmed : (w : Written) (tag kept live : ℕ) (q : WellBits w tag live) (groups history : List ℕ) (next : ℕ) (r : RolledBack w tag kept groups history next)
-    (pages : ℕ) (table owners : ℕ → ℕ) → Confirmed (neededAt w) (placesOf w) pages table owners
-    → Confirmed (neededAt (rolled w tag kept live q groups history next r)) (placesOf w) pages table owners
-rolled-confirmed w tag kept live q groups history next r pages table owners c =
-    fewer-confirmed (neededAt w) _ (placesOf w) pages table owners (rolled-needed w tag kept live q groups history next r) c
+  -- and one that has none gets the page behind the segment.
+  pub put-ring : (live pages first used : ℕ) (table owners : List ℕ) → WellBits w tag live → i + 1 ≡ live → entriesOf w ≤ length table → pages ≤ length owners → used < pages
+      → neededAt w place ≡ false → WellRing w pages first used table owners
+      → WellRing then pages first (used + 1) (set table (entryOf w place) (pageAt pages first used)) (set owners (pageAt pages first used) place)
+  put-ring live pages first used table owners q top long few room new r =
+      claimed-ring (neededAt w) (neededAt then) (placesOf w) pages first used place table owners (entryOf w) _ r room place-below entry-below few apart set-then set-only set-grows newest
+    where
+      entry-below : entryOf w place < length table
+      entry-below =
+          omega (arith, ap₂ (λ (x y : ℕ). x * blocksOf w + y) place-its-frame place-its-block, mul-le-mul frame-few (le-refl (blocksOf w)), suc-mul frame (blocksOf w), block-few)
 
--- and after an advance.
-pub advanced-confirmed : (w : Written) (lent : Lent w) (k : ℕ) (below : k < w .frames) (pages : ℕ) (table owners : ℕ → ℕ)
-    → Confirmed (neededAt w) (placesOf w) pages table owners → Confirmed (neededAt (advanced w lent k below)) (placesOf w) pages table owners
-advanced-confirmed w lent k below pages table owners c =
-    fewer-confirmed (neededAt w) _ (placesOf w) pages table owners (advanced-needed w lent k below) c
+      apart : (y : ℕ) → y < placesOf w → neededAt w y ≡ true → entryOf w y ≢ entryOf w place
+      apart y b e d =
+          let m = needed-block w y e in
+          let z = d ∙ ap₂ (λ (s t : ℕ). s * blocksOf w + t) place-its-frame place-its-block in
+          let f : y / 512 ≡ frame = sym (digits-div (y / 512) m) ∙ (ap (λ (s : ℕ). s / blocksOf w) z ∙ digits-div frame block-few) in
+          let c : y % 512 ≡ l / 8 = sym (digits-mod (y / 512) m) ∙ (ap (λ (s : ℕ). s % blocksOf w) z ∙ digits-mod frame block-few) in
+          let same : y ≡ place = omega (arith, f, c) in
+          false≢true (sym new ∙ (ap (neededAt w) (sym same) ∙ e))
+
+      newest : (y : ℕ) → y < placesOf w → neededAt w y ≡ true → ownerIndex (w .frames) (w .omf) y ≤ ownerIndex (w .frames) (w .omf) place
+      newest y b e =
+          let h = needed-line w y e in
+          let k = index-below (w .frames) (w .omf) (a .lent .omf-below) (y / 512) in
+          let is : indexOf (w .frames) (w .omf) (place / 512) ≡ i = ap (indexOf (w .frames) (w .omf)) place-its-frame ∙ index-frame (w .frames) (w .omf) (a .lent .omf-below) i (a .index-below) in
+          go (h .0) (h .1) (h .3) k is (decLt (indexOf (w .frames) (w .omf) (y / 512)) live)
+        where
+          go : (m : ℕ) → m < w .lines → effective w (indexOf (w .frames) (w .omf) (y / 512)) m ≡ true → indexOf (w .frames) (w .omf) (y / 512) < w .frames
+              → indexOf (w .frames) (w .omf) (place / 512) ≡ i → Dec (indexOf (w .frames) (w .omf) (y / 512) < live)
+              → ownerIndex (w .frames) (w .omf) y ≤ ownerIndex (w .frames) (w .omf) place
+          go m c s k is (yes d) =
+              omega (
+                arith,
+                owner-index (w .frames) (w .omf) y (omega arith),
+                owner-index (w .frames) (w .omf) place (omega (arith, place-below)),
+              )
+          go m c s k is (no d) = absurd (false≢true (sym (q .only-live (indexOf (w .frames) (w .omf) (y / 512)) m (omega arith) k c) ∙ s))
+
+-- RESET: no place is needed.
+pub started-ring : (w : Written) (pages : ℕ) (table owners : List ℕ) → 0 < pages → ((i l : ℕ) → l < w .lines → effective w i l ≡ false) → WellRing w pages 0 0 table owners
+started-ring w pages table owners some none =
+    empty-ring (neededAt w) (placesOf w) pages _ _ _ some (λ x b e. let h = needed-line w x e in false≢true (sym (none _ (h .0) (h .1)) ∙ h .3))

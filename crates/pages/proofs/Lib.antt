@@ -1,7 +1,8 @@
 pub mod Places
 pub mod Values
-pub mod Giving
-pub mod Holding
-pub mod Claiming
+pub mod Needs
 pub mod Counting
+pub mod Halving
+pub mod Owning
+pub mod Moves
 pub mod Keeping

@@ -31,7 +31,7 @@ sizing s = cond (within s) (sizesOf s) noSizes
 
 -- The bytes of a state, registers and cache, which the caller keeps. The exported calls are lent the cache's arrays.
 abbrev pub stateBytes : ℕ
-stateBytes = 780
+stateBytes = 784
 
 -- "All other lent memory, in bytes, is at most L × F + 16 × P + 4,096 in total": all but archive and pool, a state's bytes included.
 abbrev pub Bounded : Settings → Need → Type 0

@@ -2,7 +2,7 @@
 use mathlib.Core.Path.{_≡_, refl, sym, _∙_, ap, ap₂}
 use mathlib.Core.Bool.{Bool, true, false, cond, _&&_, and-true, and-false}
 use mathlib.Core.List.{List}
-use Prim.Native.Nat.{ℕ, _*_, _/_, _≤_, _<_}
+use Prim.Native.Nat.{ℕ, _*_, _/_, _≤_, _<_, min}
 use native.Mathlib.Omega.{arith}
 use borrow.Author.Tests.{le-leb, leb-true, lt-ltb, le-ltb}
 use lib.Dec.{ltb}
@@ -19,9 +19,13 @@ use Rattle.rules.proofs.Registers.{Fits, fits-facts, live-some, live-at-most}
 use Rattle.frames.specs.Circle.{Turn}
 use Rattle.written.specs.Bits.{writtenOf, Lent}
 use Rattle.pages.specs.Table.{AsksTable}
+use Rattle.pages.specs.Ring.{AsksRing}
 use Rattle.versions.specs.Newest.{AsksNewest}
 use Rattle.versions.specs.Steps.{AsksPageFor}
+use Rattle.versions.proofs.Finding.{entry-asks}
+use Rattle.storage.specs.Storage.{startIn}
 use Rattle.storage.specs.Admit.{covers, inElements, admitted}
+use Rattle.storage.proofs.Rings.{start-below}
 
 -- Each piece is long enough.
 pub record Long (least lengths : Pieces) : Type 0 where
@@ -199,9 +203,9 @@ module _ (s : Registers) (archive pool owners : ℕ) (groups table history : Lis
   room-table =
       record { lent = room-lent s archive pool (length table) owners groups history r; lines-by = r .good .lines-by; lines-from = r .good .lines-from; table-long = r .long .table }
 
-  pub room-pages : AsksTable (writtenOf (s .settings .lines) (s .settings .frames) (s .omf) groups history) table × (s .settings .pages ≤ owners)
+  pub room-pages : AsksTable (writtenOf (s .settings .lines) (s .settings .frames) (s .omf) groups history) table × (s .settings .pages ≤ 4096) × (s .settings .pages ≤ owners)
   unfolding elements
-  room-pages = (room-table, r .long .owners)
+  room-pages = (room-table, r .good .pages-to, r .long .owners)
 
 module _ (s : Registers) (owners : ℕ) (archive pool groups table history : List ℕ)
     (r : Room s (record { archive = length archive; pool = length pool; groups = length groups; table = length table; owners = owners; history = length history })) where
@@ -220,14 +224,27 @@ module _ (s : Registers) (owners : ℕ) (archive pool groups table history : Lis
         pool-long = r .long .pool;
       }
 
-module _ (s : Registers) (archive pool : ℕ) (groups table owners history : List ℕ)
-    (r : Room s (record { archive = archive; pool = pool; groups = length groups; table = length table; owners = length owners; history = length history })) where
-  pub room-page : (line : ℕ) → line < s .settings .lines → AsksPageFor (writtenOf (s .settings .lines) (s .settings .frames) (s .omf) groups history) (s .settings .pages) (s .cmf) line table owners
+module _ (s : Registers) (p : Pieces) (r : Room s p) (first used : ℕ) where
+  -- the ring that the calls see
+  pub room-ring : AsksRing (s .settings .pages) (startIn first (s .settings .pages)) (min used (s .settings .pages)) (s .settings .frames) (s .omf) (p .owners)
+  unfolding elements
+  room-ring =
+      record {
+        first-below = start-below first (s .settings .pages) (omega (arith, r .good .pages-from));
+        used-few = omega arith;
+        pages-few = r .good .pages-to;
+        owners-long = r .long .owners;
+        omf-below = r .fits .omf-below;
+        frames-few = omega (arith, r .good .frames-to);
+      }
+
+  pub room-page : (line : ℕ) → line < s .settings .lines
+      → AsksPageFor (s .settings .lines) (s .settings .frames) (s .omf) (s .settings .pages) (startIn first (s .settings .pages)) (min used (s .settings .pages)) (s .cmf) line (p .table) (p .owners)
   unfolding elements
   room-page line b =
       record {
-        asks = room-table s archive pool (length owners) groups table history r;
-        line-below = b;
-        frame-below = r .fits .cmf-below;
-        owners-long = r .long .owners;
+        ring = room-ring;
+        entry =
+            entry-asks (s .settings .lines) (s .settings .frames) (s .cmf) line (p .table) (r .good .lines-by) (r .good .lines-to) (omega (arith, r .good .frames-to)) (r .fits .cmf-below) b
+            (r .long .table);
       }

@@ -27,7 +27,7 @@ use Rattle.frames.proofs.Lines.{is-line}
 use Rattle.written.specs.Bits.{writtenOf, effective}
 use Rattle.written.specs.Well.{WellBits}
 use Rattle.pages.specs.Lines.{archiveLine}
-use Rattle.pages.specs.Table.{Confirmed, neededAt, placeAt, placesOf}
+use Rattle.pages.specs.Ring.{WellRing}
 use Rattle.cache.specs.declared.Cache.{Cache}
 use Rattle.cache.specs.Entries.{Sized, All, lineOf, isValid}
 use Rattle.cache.specs.Shown.{lineIn, shown}
@@ -110,7 +110,7 @@ module _ (x : Storage) (z : admittedIn x 0 ≡ 0) where
 
   module _ (q : Findable x) (bytes : Bytes (128 * x .state .registers .pages) (x .memory .pool)) where
     version-line : (i l : ℕ) → i < liveIn (x .state) → l < x .state .registers .lines → effective (writtenIn x) i l ≡ true → IsLine (versionAt x i l)
-    unfolding versionAt pageOf placeAt elements
+    unfolding versionAt pageOf elements
     version-line i l h b e =
         let p = page-known x q i l h b e in
         is-line (x .memory .pool) _ (omega (arith, p, room .long .pool)) (λ k c. bytes k (omega (arith, p)))
@@ -158,7 +158,7 @@ module _ (x : Storage) (z : admittedIn x 0 ≡ 0) (live : ℕ) (counted : live �
       (b, c .0 ∙ sym (n .0), c .1 ∙ sym (n .1))
 
   pub well-decided : (b p c r : Bool) → Decides b (WellBits (writtenIn x) (x .state .registers .tag) live) → not b ≡ false
-      → Decides p (Confirmed (neededAt (writtenIn x)) (placesOf (writtenIn x)) (x .state .registers .pages) (λ y. getD (x .memory .table) y 0) (λ p. getD (x .memory .owners) p 0))
+      → Decides p (WellRing (writtenIn x) (x .state .registers .pages) (x .state .registers .first) (x .state .registers .used) (x .memory .table) (x .memory .owners))
       → not p ≡ false → Decides c (WellCache (settingsOf (x .state .registers .lines) 0 0) (shown (x .state .cache))) → not c ≡ false
       → Bytes (16 * x .state .registers .lines) (x .memory .archive) → Bytes (128 * x .state .registers .pages) (x .memory .pool) → Sized (x .state .cache) → Decides r RecentAll → Decides r (WellStore x)
   well-decided b p c r bits bits-pass pages pages-pass cache cache-pass archive pool sized recent =

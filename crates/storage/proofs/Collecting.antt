@@ -36,8 +36,8 @@ use Rattle.written.specs.Well.{WellBits}
 use Rattle.written.proofs.Advancing.{advanced-effective, advanced-well}
 use Rattle.written.proofs.Finding.{version-back}
 use Rattle.pages.specs.Lines.{pageLine, archiveLine}
-use Rattle.pages.specs.Table.{placeAt}
-use Rattle.pages.proofs.Keeping.{advanced-confirmed}
+use Rattle.pages.specs.Ring.{pageAt, WellRing}
+use Rattle.pages.proofs.Keeping.{advanced-ring}
 use Rattle.cache.specs.Steps.{archiveFrame, frameAfter, framesAfter, withOrigins, collected}
 use Rattle.cache.specs.Shown.{shown}
 use Rattle.cache.proofs.Frames.{collected-sized, collected-shown, collected-all}
@@ -45,7 +45,8 @@ use Rattle.versions.specs.Newest.{pageOf, spotOf, contentOf}
 use Rattle.versions.specs.Steps.{folded, AsksFold}
 use Rattle.storage.specs.declared.Registers.{Registers}
 use Rattle.storage.specs.Storage.{Storage, stateOf, storageOf, memoryOf, settingsIn, registersIn, lengthsIn, pastIn, Recent, Coherent, liveIn, writtenIn, indexBack, frameIn, archiveIn, versionAt, latestIn, frameNumber, newestFrame, WellStore, store}
-use Rattle.storage.specs.Steps.{advancedRegisters, advancedState, AdvancedTo}
+use Rattle.storage.specs.Steps.{PagesBelow, advancedRegisters, advancedState, AdvancedTo}
+use Rattle.storage.proofs.Rings.{start-same, used-same, ring-found}
 use Rattle.storage.proofs.Limits.{Limits, limits, lent-long}
 use Rattle.storage.proofs.Admitting.{Long, room-table}
 use Rattle.storage.proofs.Chains.{FramesRoom, frames-room}
@@ -73,10 +74,10 @@ fold-asks s owners k archive pool groups table history g =
     }
 
 -- What it leaves, and that it stays within the lent memory.
-module _ (x : Storage) (k : ℕ) where
+module _ (x : Storage) (k gone : ℕ) where
   abbrev pub collected-to : Storage
   collected-to =
-      storageOf (advancedState (x .state) k)
+      storageOf (advancedState (x .state) k gone)
       (folded (writtenIn x) (x .state .registers .pages) k (x .memory .pool) (x .memory .table) (x .state .registers .lines) (x .memory .archive)) (x .memory .pool)
       (cleared (x .state .registers .lines) (x .state .registers .frames) (x .state .registers .omf) k (x .memory .groups)) (x .memory .table) (x .memory .owners)
       (lowered k (x .memory .history))
@@ -104,7 +105,7 @@ module _ (x : Storage) (k : ℕ) where
         (cleared-past (x .state .registers .lines) (x .state .registers .frames) (x .state .registers .omf) k (x .memory .groups) i) (drop (x .state .registers .frames * (x .state .registers .lines / 8)) (x .memory .table))
         (drop (x .state .registers .pages) (x .memory .owners)) (lowered-past k (x .memory .history) i)
 
-module _ (x : Storage) (q : WellStore x) (k : ℕ) (some-k : 0 < k) (low : k ≤ liveIn (x .state) - 1) where
+module _ (x : Storage) (q : WellStore x) (k gone : ℕ) (some-k : 0 < k) (low : k ≤ liveIn (x .state) - 1) (found : PagesBelow (x .state .registers) (x .memory .owners) k gone) where
   abbrev n : ℕ
   n = liveIn (x .state)
 
@@ -112,7 +113,7 @@ module _ (x : Storage) (q : WellStore x) (k : ℕ) (some-k : 0 < k) (low : k ≤
   kept = n - k
 
   abbrev new : Storage
-  new = collected-to x k
+  new = collected-to x k gone
 
   abbrev lim : Limits x
   lim = limits x (q .fits)
@@ -144,7 +145,7 @@ module _ (x : Storage) (q : WellStore x) (k : ℕ) (some-k : 0 < k) (low : k ≤
       ∙ ap (λ (m : ℕ). m % x .state .registers .frames) (add-assoc (x .state .registers .omf) k (indexBack (new .state) j) ∙ ap (λ (m : ℕ). x .state .registers .omf + m) (index j h))
 
   collected-alike : (j l : ℕ) → j < kept → l < x .state .registers .lines → AlikeAt new x (indexBack (new .state) j) (indexBack (x .state) j) l
-  unfolding versionAt advancedState placeAt frameAt pageOf
+  unfolding versionAt advancedState frameAt pageOf
   collected-alike j l h b =
       record {
         bit =
@@ -184,7 +185,7 @@ module _ (x : Storage) (q : WellStore x) (k : ℕ) (some-k : 0 < k) (low : k ≤
     archive-folded =
         let start : k - 1 + 1 ≡ k = omega arith in
         ap (λ (t : Bool). cond t (archiveLine (new .memory .archive) l) zeros) (lt-ltb l (x .state .registers .lines) b)
-        ∙ (lines-in x k long .line l b
+        ∙ (lines-in x k gone long .line l b
         ∙ (ap (λ (m : ℕ). contentOf (x .memory .archive) (x .memory .pool) l (spotOf (x .state .registers .lines) (x .state .registers .frames) (x .state .registers .omf) (x .state .registers .pages) (x .memory .table) l (greatest m row))) start
         ∙ (version-content x (well-findable x q) l b (greatest k row) (λ i e. let g = greatest-found k row i e in (omega (arith, g .below), g .passes))
         ∙ (sym (version-back k row (λ i. versionAt x i l) (archiveIn x l))
@@ -249,14 +250,26 @@ module _ (x : Storage) (q : WellStore x) (k : ℕ) (some-k : 0 < k) (low : k ≤
   unfolding advancedState
   collected-cache = collected-shown (x .state .cache) (q .sized) (x .state .registers .omf) (x .state .registers .frames) k
 
+  -- the pages of the frames that stay
+  collected-pages : WellRing (writtenIn new) (x .state .registers .pages) (new .state .registers .first) (new .state .registers .used) (x .memory .table) (x .memory .owners)
+  unfolding advancedState frameAt
+  collected-pages =
+      subst
+      (λ (f : ℕ). WellRing (writtenIn new) (x .state .registers .pages) (pageAt (x .state .registers .pages) f gone) (new .state .registers .used) (x .memory .table) (x .memory .owners))
+      (sym (start-same (x .state .registers .first) (x .state .registers .pages) (q .pages .first-below)))
+      (subst
+      (λ (u : ℕ). WellRing (writtenIn new) (x .state .registers .pages) (pageAt (x .state .registers .pages) (x .state .registers .first) gone) (u - gone) (x .memory .table) (x .memory .owners))
+      (sym (used-same (x .state .registers .used) (x .state .registers .pages) (q .pages .used-few)))
+      (advanced-ring (writtenIn x) (q .bits .lent) k below (x .state .registers .pages) (x .state .registers .first) (x .state .registers .used) gone (x .memory .table) (x .memory .owners) (q .pages) (ring-found x q k gone found)))
+
   collected-store : WellStore new
   unfolding advancedState frameAt
   collected-store =
       record {
         fits = facts-fit _ (record { limits = lim .fits .limits; cmf-below = lim .fits .cmf-below; omf-below = mod-lt _ (omega (arith, below)) });
-        long = subst (λ (p : Pieces). enough (settingsIn (x .state)) p ≡ true) (sym (lengths-kept x k long)) (q .long);
+        long = subst (λ (p : Pieces). enough (settingsIn (x .state)) p ≡ true) (sym (lengths-kept x k gone long)) (q .long);
         bits = subst (λ (m : ℕ). WellBits (writtenIn new) (x .state .registers .tag) m) (sym live) (advanced-well (writtenIn x) (q .bits .lent) k below (x .state .registers .tag) n (q .bits));
-        pages = advanced-confirmed (writtenIn x) (q .bits .lent) k below (x .state .registers .pages) (λ y. getD (x .memory .table) y 0) (λ p. getD (x .memory .owners) p 0) (q .pages);
+        pages = collected-pages;
         sized = collected-sized (x .state .cache) (q .sized) (x .state .registers .omf) (x .state .registers .frames) k;
         version-line = step-versions new _ _ collected-figure next-well;
         archive-line = step-archive new _ _ collected-figure next-well;
@@ -280,27 +293,28 @@ module _ (x : Storage) (k a : ℕ) (told : a ≡ admittedIn x (markedRefusal (li
   unfolding refusal actRefusal factsBy refused
   advance-refused z = turned-down x (ON (CHANGE (ADVANCE k))) a told z
 
-  promised : a ≡ 0 → Promise store (ON (CHANGE (ADVANCE k))) x (outcome 0) (collected-to x k)
-  unfolding refusal actRefusal factsBy refused registersStep settingsFor advancedState
-  promised z =
-      let g = frames-room (registersIn (x .state)) (lengthsIn (x .memory)) a k told z in
-      let-through x (ON (CHANGE (ADVANCE k))) a told z refl (record { registers = refl; followed = λ q. advanced-followed x q k (g .k-some) (g .k-low) }) (lengths-kept x k (g .room .long)) (past-kept x k (g .room .long))
+  module _ (gone : ℕ) (found : PagesBelow (x .state .registers) (x .memory .owners) k gone) where
+    promised : a ≡ 0 → Promise store (ON (CHANGE (ADVANCE k))) x (outcome 0) (collected-to x k gone)
+    unfolding refusal actRefusal factsBy refused registersStep settingsFor advancedState
+    promised z =
+        let g = frames-room (registersIn (x .state)) (lengthsIn (x .memory)) a k told z in
+        let-through x (ON (CHANGE (ADVANCE k))) a told z refl (record { registers = refl; followed = λ q. advanced-followed x q k gone (g .k-some) (g .k-low) found }) (lengths-kept x k gone (g .room .long)) (past-kept x k gone (g .room .long))
 
-  -- in the form in which the code has the lists, the registers and the cache's frames
-  pub advance-collects : a ≡ 0 → (archive groups history : List ℕ) → archive ≡ collected-to x k .memory .archive
-      → groups ≡ collected-to x k .memory .groups → history ≡ collected-to x k .memory .history
-      → (t : Registers) (origins : List ℕ) → t ≡ advancedRegisters (x .state .registers) k
-      → origins ≡ framesAfter (x .state .registers .omf) (x .state .registers .frames) k (x .state .cache .frames)
-      → Promise store (ON (CHANGE (ADVANCE k))) x (outcome 0)
-      (storageOf (stateOf t (withOrigins (x .state .cache) origins)) archive (x .memory .pool) groups (x .memory .table) (x .memory .owners) history)
-      × AdvancedTo (x .state) (x .memory .archive) (x .memory .pool) (x .memory .groups) (x .memory .table) (x .memory .history) k
-      (stateOf t (withOrigins (x .state .cache) origins)) archive groups history
-  unfolding advancedState collected
-  advance-collects z archive groups history ea eg eh t origins e frames =
-      let same : stateOf t (withOrigins (x .state .cache) origins) ≡ advancedState (x .state) k =
-      λ i. stateOf (e i) (withOrigins (x .state .cache) (frames i))
-      in (
-        subst (Promise store (ON (CHANGE (ADVANCE k))) x (outcome 0))
-            (λ i. storageOf (sym same i) (sym ea i) (x .memory .pool) (sym eg i) (x .memory .table) (x .memory .owners) (sym eh i)) (promised z),
-        record { state = same; archive-is = ea; groups-is = eg; history-is = eh },
-      )
+    -- in the form in which the code has the lists, the registers and the cache's frames
+    pub advance-collects : a ≡ 0 → (archive groups history : List ℕ) → archive ≡ collected-to x k gone .memory .archive
+        → groups ≡ collected-to x k gone .memory .groups → history ≡ collected-to x k gone .memory .history
+        → (t : Registers) (origins : List ℕ) → t ≡ advancedRegisters (x .state .registers) k gone
+        → origins ≡ framesAfter (x .state .registers .omf) (x .state .registers .frames) k (x .state .cache .frames)
+        → Promise store (ON (CHANGE (ADVANCE k))) x (outcome 0)
+        (storageOf (stateOf t (withOrigins (x .state .cache) origins)) archive (x .memory .pool) groups (x .memory .table) (x .memory .owners) history)
+        × AdvancedTo (x .state) (x .memory .archive) (x .memory .pool) (x .memory .groups) (x .memory .table) (x .memory .owners) (x .memory .history) k
+        (stateOf t (withOrigins (x .state .cache) origins)) archive groups history
+    unfolding advancedState collected
+    advance-collects z archive groups history ea eg eh t origins e frames =
+        let same : stateOf t (withOrigins (x .state .cache) origins) ≡ advancedState (x .state) k gone =
+        λ i. stateOf (e i) (withOrigins (x .state .cache) (frames i))
+        in (
+          subst (Promise store (ON (CHANGE (ADVANCE k))) x (outcome 0))
+              (λ i. storageOf (sym same i) (sym ea i) (x .memory .pool) (sym eg i) (x .memory .table) (x .memory .owners) (sym eh i)) (promised z),
+          record { gone = gone; pages = found; state = same; archive-is = ea; groups-is = eg; history-is = eh },
+        )

@@ -3,26 +3,25 @@ use mathlib.Core.Path.{_≡_, refl, sym, _∙_, ap₂}
 use mathlib.Core.Logic.{_≢_}
 use mathlib.Core.Bool.{Bool, true, false, cond, _&&_}
 use mathlib.Core.Option.{none, some}
-use Prim.Native.Nat.{ℕ, zero, suc, _+_, _-_, _*_, _/_, _<_}
+use Prim.Native.Nat.{ℕ, zero, suc, _+_, _-_, _*_, _/_, _<_, min}
 use native.Mathlib.Omega.{arith}
 use borrow.Author.Tests.{lt-ltb}
-use lib.ListN.{getD}
 use Rattle.rules.specs.Line.{Line}
 use Rattle.rules.specs.Call.{refused}
 use Rattle.rules.specs.Call.Answer.{counting}
 use Rattle.rules.specs.Call.Look.{COUNTS}
 use Rattle.rules.specs.Call.Act.{LOOK}
 use Rattle.rules.specs.Call.Call.{ON}
-use Rattle.rules.specs.Seen.{accepted, count, needs}
+use Rattle.rules.specs.Seen.{accepted, needs}
 use Rattle.rules.specs.Refusal.{refusal, actRefusal, factsBy}
 use Rattle.rules.specs.Figure2.{pagesOf, isWritten, figureSeen}
 use Rattle.rules.specs.Promise.{Promise, seenOf}
 use Rattle.rules.proofs.Count.{any-same, count-same}
 use Rattle.written.specs.Bits.{effective}
-use Rattle.pages.specs.Table.{placesOf, neededAt, heldAt}
-use Rattle.pages.proofs.Holding.{held-count}
+use Rattle.pages.proofs.Moves.{segment-count}
 use Rattle.pages.proofs.Counting.{needed-pages}
 use Rattle.storage.specs.Storage.{Storage, liveIn, writtenIn, frameIn, versionAt, WellStore, store}
+use Rattle.storage.proofs.Rings.{used-same}
 use Rattle.storage.proofs.Limits.{limits}
 use Rattle.storage.proofs.Looking.{admittedIn, turned-down, let-through}
 
@@ -47,11 +46,11 @@ written-effective x j l b c =
     set true v = refl
     set false v = refl
 
-pub pages-counted : (x : Storage) → WellStore x
-    → count (x .state .registers .pages) (heldAt (writtenIn x) (x .memory .table) (x .memory .owners)) ≡ seenOf store x .pages
-unfolding heldAt seenOf figureSeen
+-- As many pages are in use as Figure 2 needs.
+pub pages-counted : (x : Storage) → WellStore x → x .state .registers .used ≡ seenOf store x .pages
+unfolding seenOf figureSeen
 pages-counted x q =
-    held-count (neededAt (writtenIn x)) (x .state .registers .pages) (λ y. getD (x .memory .table) y 0) (λ p. getD (x .memory .owners) p 0) (placesOf (writtenIn x)) (q .pages)
+    segment-count (q .pages)
     ∙ (needed-pages (writtenIn x) (x .state .registers .tag) (liveIn (x .state)) (q .bits) (limits x (q .fits) .live-most)
     ∙ pages-alike (x .state .registers .lines) (liveIn (x .state)) _ _ (written-effective x))
 
@@ -60,9 +59,9 @@ module _ (x : Storage) (a : ℕ) (told : a ≡ admittedIn x 0) where
   unfolding refusal actRefusal factsBy refused
   counts-refused z = turned-down x (ON (LOOK COUNTS)) a told z
 
-  pub counts-told : a ≡ 0 → (live pages : ℕ) → live ≡ liveIn (x .state) → pages ≡ count (x .state .registers .pages) (heldAt (writtenIn x) (x .memory .table) (x .memory .owners))
+  pub counts-told : a ≡ 0 → (live pages : ℕ) → live ≡ liveIn (x .state) → pages ≡ min (x .state .registers .used) (x .state .registers .pages)
       → Promise store (ON (LOOK COUNTS)) x (counting 0 live pages) x
   unfolding refusal actRefusal factsBy refused accepted seenOf figureSeen
   counts-told z live pages el ep =
       let-through x (ON (LOOK COUNTS)) a told z refl
-      (record { kept = refl; answer = λ q. ap₂ (λ (m n : ℕ). counting 0 m n) el (ep ∙ pages-counted x q) }) refl refl
+      (record { kept = refl; answer = λ q. ap₂ (λ (m n : ℕ). counting 0 m n) el (ep ∙ (used-same (x .state .registers .used) (x .state .registers .pages) (q .pages .used-few) ∙ pages-counted x q)) }) refl refl

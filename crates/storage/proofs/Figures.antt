@@ -13,8 +13,6 @@ use Rattle.rules.specs.Figure2.{Figure}
 use Rattle.rules.specs.Promise.{WellFigure, Lawful, seenOf}
 use Rattle.written.specs.Bits.{effective}
 use Rattle.pages.specs.Lines.{archiveLine}
-use Rattle.pages.specs.Table.{heldAt}
-use Rattle.pages.proofs.Giving.{count-le}
 use Rattle.storage.specs.Storage.{Storage, settingsIn, liveIn, writtenIn, indexBack, versionAt, frameIn, archiveIn, WellStore, store}
 use Rattle.storage.proofs.Limits.{limits}
 use Rattle.storage.proofs.Counting.{pages-counted}
@@ -86,7 +84,7 @@ well-figure x q =
       line = q .version-line;
       archive-line = q .archive-line;
       archive-lines = archive-past x;
-      pages = subst (λ (n : ℕ). n ≤ x .state .registers .pages) (pages-counted x q) (count-le (x .state .registers .pages) (heldAt (writtenIn x) (x .memory .table) (x .memory .owners)));
+      pages = subst (λ (n : ℕ). n ≤ x .state .registers .pages) (pages-counted x q) (q .pages .used-few);
     }
 
 -- The store's well-formedness is what document 01 asks of it.

@@ -1,4 +1,6 @@
+pub mod Rings
 pub mod Admitting
+pub mod Seeing
 pub mod Chains
 pub mod Limits
 pub mod Looking

@@ -32,7 +32,7 @@ module _ (frames omf : ℕ) (few : frames ≤ 256) (h : omf < frames) (m : ℕ) 
       ap₂ (λ (s t : Bool). not s && not t) (ne-eqb (frameAt frames omf i) archiveFrame (λ e. omega (arith, frame-below frames omf h i))) (below-frame i b)
 
 -- A use of the cache leaves the frames' numbers.
-pub used-number : (s : State) (hint : ℕ) (c : Cache) (o : Place) → frameNumber (usedState s hint c) o ≡ frameNumber s o
+pub used-number : (s : State) (used : ℕ) (c : Cache) (o : Place) → frameNumber (usedState s used c) o ≡ frameNumber s o
 unfolding frameNumber usedState
-used-number s hint c (in-frame j) = refl
-used-number s hint c in-archive = refl
+used-number s used c (in-frame j) = refl
+used-number s used c in-archive = refl

@@ -22,8 +22,9 @@ use Rattle.frames.proofs.Search.{Greatest, greatest-found}
 use Rattle.written.specs.Bits.{effective, newestFrom}
 use Rattle.written.proofs.Finding.{backOf, versionOf, found-back, version-back}
 use Rattle.pages.specs.Lines.{archiveLine}
-use Rattle.pages.specs.Table.{Confirmed, neededAt, placeAt, placesOf}
-use Rattle.pages.proofs.Keeping.{place-within, effective-needed}
+use Rattle.pages.specs.Table.{placeAt}
+use Rattle.pages.specs.Ring.{WellRing}
+use Rattle.pages.proofs.Needs.{effective-needed}
 use Rattle.cache.specs.Entries.{found, isHit}
 use Rattle.cache.specs.declared.Entry.{Entry}
 use Rattle.cache.specs.declared.Entry.the-variants.{Hit, Miss}
@@ -32,6 +33,7 @@ use Rattle.cache.proofs.Hits.{hit-shown, found-at}
 use Rattle.versions.specs.declared.Spot.the-variants.{Page, Archive}
 use Rattle.versions.specs.declared.Version.{Version}
 use Rattle.versions.specs.Newest.{pageOf, spotOf, contentOf, numberOf, backIn, originOf, newestOf, latestFrom, latestHeld, latestOf}
+use Rattle.versions.proofs.Finding.{place-entry}
 use Rattle.storage.specs.Storage.{Storage, registersIn, liveIn, writtenIn, versionAt, frameIn, archiveIn, latestIn, frameNumber, newestFrame, WellStore, store}
 use Rattle.storage.proofs.Limits.{Limits, limits}
 use Rattle.storage.proofs.Counting.{written-effective}
@@ -42,8 +44,7 @@ use Rattle.storage.proofs.Rows.{version-same, found-same}
 pub record Findable (x : Storage) : Type 0 where
   pub fits : stateFits (registersIn (x .state)) ≡ true
   pub pages :
-      Confirmed (neededAt (writtenIn x)) (placesOf (writtenIn x)) (x .state .registers .pages) (λ y. getD (x .memory .table) y 0)
-      (λ p. getD (x .memory .owners) p 0)
+      WellRing (writtenIn x) (x .state .registers .pages) (x .state .registers .first) (x .state .registers .used) (x .memory .table) (x .memory .owners)
 
 pub well-findable : (x : Storage) → WellStore x → Findable x
 well-findable x q = record { fits = q .fits; pages = q .pages }
@@ -60,12 +61,13 @@ module _ (x : Storage) (q : Findable x) where
 
   -- A version stands in a page of the pool.
   pub page-known : (i l : ℕ) → i < n → l < x .state .registers .lines → effective (writtenIn x) i l ≡ true → page i l < x .state .registers .pages
-  unfolding pageOf placeAt
+  unfolding pageOf
   page-known i l h b e =
       let block : l / 8 < x .state .registers .lines / 8 = omega (arith, lim .good .lines-by) in
-      q .pages (placeAt (writtenIn x) (frameAt (x .state .registers .frames) (x .state .registers .omf) i) (l / 8))
-      (place-within (writtenIn x) (frameAt (x .state .registers .frames) (x .state .registers .omf) i) (l / 8) (frame-below (x .state .registers .frames) (x .state .registers .omf) (lim .fits .omf-below) i) block)
-      (effective-needed (writtenIn x) i l (lim .fits .omf-below) (omega (arith, lim .live-most)) block e) .0
+      let f : ℕ = frameAt (x .state .registers .frames) (x .state .registers .omf) i in
+      let few : f < x .state .registers .frames = frame-below (x .state .registers .frames) (x .state .registers .omf) (lim .fits .omf-below) i in
+      let k = q .pages .paged (placeAt f (l / 8)) (omega (arith, lim .good .lines-to)) (effective-needed (writtenIn x) i l (lim .good .lines-to) (lim .fits .omf-below) (omega (arith, lim .live-most)) block e) in
+      omega (arith, k .page-below, ap (λ (y : ℕ). getD (x .memory .table) y 0) (place-entry (writtenIn x) f l (lim .good .lines-to) b))
 
   module _ (l : ℕ) (b : l < x .state .registers .lines) where
     abbrev bits : ℕ → Bool
@@ -92,7 +94,7 @@ module _ (x : Storage) (q : Findable x) where
     pub version-content : (r : Found) → ((i : ℕ) → r ≡ At i → (i < n) × (bits i ≡ true))
         → contentOf (x .memory .archive) (x .memory .pool) l (spotOf (x .state .registers .lines) (x .state .registers .frames) (x .state .registers .omf) (x .state .registers .pages) (x .memory .table) l r)
         ≡ versionOf (λ i. versionAt x i l) (archiveIn x l) r
-    unfolding contentOf spotOf versionOf versionAt archiveIn pageOf placeAt
+    unfolding contentOf spotOf versionOf versionAt archiveIn pageOf
     version-content (At i) h =
         let g = h i refl in
         ap (λ (t : Bool). contentOf (x .memory .archive) (x .memory .pool) l (cond t (Page (page i l)) Archive)) (lt-ltb (page i l) (x .state .registers .pages) (page-known i l (g .0) b (g .1)))

@@ -32,8 +32,8 @@ use Rattle.written.specs.Bits.{effective}
 use Rattle.written.specs.Steps.{RolledBack}
 use Rattle.written.specs.Well.{WellBits}
 use Rattle.written.proofs.Rolling.{rolled-effective, rolled-well}
-use Rattle.pages.specs.Table.{placeAt}
-use Rattle.pages.proofs.Keeping.{rolled-confirmed}
+use Rattle.pages.specs.Ring.{WellRing, Leading, indexAt}
+use Rattle.pages.proofs.Keeping.{rolled-ring}
 use Rattle.cache.specs.Entries.{lineOf}
 use Rattle.cache.specs.Steps.{isDropped, flagsAfter, withFlags, forgotten}
 use Rattle.cache.specs.Shown.{shown}
@@ -42,7 +42,8 @@ use Rattle.storage.specs.declared.Registers.{Registers}
 use Rattle.storage.specs.declared.State.{State}
 use Rattle.versions.specs.Newest.{pageOf}
 use Rattle.storage.specs.Storage.{Storage, stateOf, storageOf, memoryOf, settingsIn, registersIn, lengthsIn, Recent, Coherent, liveIn, writtenIn, indexBack, frameIn, archiveIn, versionAt, latestIn, frameNumber, newestFrame, WellStore, store}
-use Rattle.storage.specs.Steps.{rolledRegisters, rolledState, RolledTo}
+use Rattle.storage.specs.Steps.{PagesBelow, rolledRegisters, rolledState, RolledTo}
+use Rattle.storage.proofs.Rings.{ring-found}
 use Rattle.storage.proofs.Limits.{Limits, limits}
 use Rattle.storage.proofs.Chains.{frames-room}
 use Rattle.storage.proofs.Looking.{admittedIn, turned-down, let-through}
@@ -51,8 +52,8 @@ use Rattle.storage.proofs.Past.{rolled-groups-long, rolled-groups-past,
 use Rattle.storage.proofs.Numbers.{dropped-frame}
 use Rattle.storage.proofs.Rows.{shift, Within, found-within, kept-found, kept-version}
 
-module _ (x : Storage) (q : WellStore x) (k : ℕ) (low : k ≤ liveIn (x .state) - 1) (groups history : List ℕ) (next : ℕ)
-    (r : RolledBack (writtenIn x) (x .state .registers .tag) (liveIn (x .state) - k) groups history next) where
+module _ (x : Storage) (q : WellStore x) (k : ℕ) (low : k ≤ liveIn (x .state) - 1) (groups history : List ℕ) (next left : ℕ)
+    (r : RolledBack (writtenIn x) (x .state .registers .tag) (liveIn (x .state) - k) groups history next) (found : PagesBelow (x .state .registers) (x .memory .owners) (liveIn (x .state) - k) left) where
   abbrev n : ℕ
   n = liveIn (x .state)
 
@@ -62,7 +63,7 @@ module _ (x : Storage) (q : WellStore x) (k : ℕ) (low : k ≤ liveIn (x .state
   abbrev pub dropped-to : Storage
   dropped-to =
       record {
-        state = rolledState (x .state) k next;
+        state = rolledState (x .state) k next left;
         memory = record { archive = x .memory .archive; pool = x .memory .pool; groups = groups; table = x .memory .table; owners = x .memory .owners; history = history };
       }
 
@@ -87,7 +88,7 @@ module _ (x : Storage) (q : WellStore x) (k : ℕ) (low : k ≤ liveIn (x .state
       index n = omega arith
 
   rolled-alike : (i l : ℕ) → i < kept → l < x .state .registers .lines → AlikeAt dropped-to x i i l
-  unfolding versionAt rolledState placeAt pageOf
+  unfolding versionAt rolledState pageOf
   rolled-alike i l h b =
       record {
         bit =
@@ -172,6 +173,13 @@ module _ (x : Storage) (q : WellStore x) (k : ℕ) (low : k ≤ liveIn (x .state
   next-well : WellFigure (settingsIn (x .state)) (figureStep (CHANGE (ROLLBACK k)) (store .registers x) (store .figure x))
   next-well = rollback-well (settingsIn (x .state)) (store .registers x) (store .figure x) (well-figure x q) k low
 
+  -- the pages of the frames that stay
+  rolled-pages : WellRing (writtenIn dropped-to) (x .state .registers .pages) (x .state .registers .first) left (x .memory .table) (x .memory .owners)
+  unfolding rolledState
+  rolled-pages =
+      rolled-ring (writtenIn x) (x .state .registers .tag) kept n (q .bits) groups history next r (x .state .registers .pages) (x .state .registers .first) (x .state .registers .used) left
+      (x .memory .table) (x .memory .owners) (q .pages) (ring-found x q kept left found)
+
   rolled-store : WellStore dropped-to
   unfolding rolledState
   rolled-store =
@@ -179,7 +187,7 @@ module _ (x : Storage) (q : WellStore x) (k : ℕ) (low : k ≤ liveIn (x .state
         fits = facts-fit _ (record { limits = lim .fits .limits; cmf-below = mod-lt _ (omega (arith, lim .fits .omf-below)); omf-below = lim .fits .omf-below });
         long = subst (λ (p : Pieces). enough (settingsIn (x .state)) p ≡ true) (sym lengths) (q .long);
         bits = subst (λ (m : ℕ). WellBits (writtenIn dropped-to) next m) (sym live) (rolled-well (writtenIn x) (x .state .registers .tag) kept n (q .bits) groups history next r (omega (arith, lim .live-most, lim .good .frames-to)));
-        pages = rolled-confirmed (writtenIn x) (x .state .registers .tag) kept n (q .bits) groups history next r (x .state .registers .pages) (λ y. getD (x .memory .table) y 0) (λ p. getD (x .memory .owners) p 0) (q .pages);
+        pages = rolled-pages;
         sized = forgotten-sized (x .state .cache) (q .sized) (x .state .registers .omf) (x .state .registers .frames) kept;
         version-line = step-versions dropped-to _ _ rolled-figure next-well;
         archive-line = step-archive dropped-to _ _ rolled-figure next-well;
@@ -203,8 +211,8 @@ module _ (x : Storage) (k a : ℕ) (told : a ≡ admittedIn x (markedRefusal (li
   unfolding refusal actRefusal factsBy refused
   rollback-refused z = turned-down x (ON (CHANGE (ROLLBACK k))) a told z
 
-  module _ (z : a ≡ 0) (live : ℕ) (live-is : live ≡ liveIn (x .state)) (groups history : List ℕ) (next : ℕ)
-      (r : RolledBack (writtenIn x) (x .state .registers .tag % 256) (live - k) groups history next) where
+  module _ (z : a ≡ 0) (live : ℕ) (live-is : live ≡ liveIn (x .state)) (groups history : List ℕ) (next left : ℕ)
+      (r : RolledBack (writtenIn x) (x .state .registers .tag % 256) (live - k) groups history next) (found : PagesBelow (x .state .registers) (x .memory .owners) (live - k) left) where
     kept-is : live - k ≡ liveIn (x .state) - k
     kept-is = ap (λ (n : ℕ). n - k) live-is
 
@@ -214,16 +222,19 @@ module _ (x : Storage) (k a : ℕ) (told : a ≡ admittedIn x (markedRefusal (li
     exact : RolledBack (writtenIn x) (x .state .registers .tag % 256) (liveIn (x .state) - k) groups history next
     exact = subst (λ (n : ℕ). RolledBack (writtenIn x) (x .state .registers .tag % 256) n groups history next) kept-is r
 
+    left-is : PagesBelow (x .state .registers) (x .memory .owners) (liveIn (x .state) - k) left
+    left-is = subst (λ (n : ℕ). PagesBelow (x .state .registers) (x .memory .owners) n left) kept-is found
+
     abbrev pub after : State → Storage
     after s = storageOf s (x .memory .archive) (x .memory .pool) groups (x .memory .table) (x .memory .owners) history
 
-    followed : WellStore x → Followed store (CHANGE (ROLLBACK k)) x (outcome 0) (after (rolledState (x .state) k next))
+    followed : WellStore x → Followed store (CHANGE (ROLLBACK k)) x (outcome 0) (after (rolledState (x .state) k next left))
     followed q =
         let tag : x .state .registers .tag % 256 ≡ x .state .registers .tag = omega (arith, q .bits .tag-below) in
-        rolled-followed x q k (frames-room (registersIn (x .state)) (lengthsIn (x .memory)) a k told z .k-low) groups history next
-        (subst (λ (t : ℕ). RolledBack (writtenIn x) t (liveIn (x .state) - k) groups history next) tag exact)
+        rolled-followed x q k (frames-room (registersIn (x .state)) (lengthsIn (x .memory)) a k told z .k-low) groups history next left
+        (subst (λ (t : ℕ). RolledBack (writtenIn x) t (liveIn (x .state) - k) groups history next) tag exact) left-is
 
-    promised : Promise store (ON (CHANGE (ROLLBACK k))) x (outcome 0) (after (rolledState (x .state) k next))
+    promised : Promise store (ON (CHANGE (ROLLBACK k))) x (outcome 0) (after (rolledState (x .state) k next left))
     unfolding refusal actRefusal factsBy refused registersStep settingsFor elements rolledState
     promised =
         let-through x (ON (CHANGE (ROLLBACK k))) a told z refl (record { registers = refl; followed = followed })
@@ -235,15 +246,15 @@ module _ (x : Storage) (k a : ℕ) (told : a ≡ admittedIn x (markedRefusal (li
         (rolled-history-past (writtenIn x) (x .state .registers .tag % 256) (live - k) groups history next r small))
 
     -- in the form in which the code has the registers and the valid flags
-    pub rollback-drops : (t : Registers) (valid : List ℕ) → t ≡ rolledRegisters (x .state .registers) k next
+    pub rollback-drops : (t : Registers) (valid : List ℕ) → t ≡ rolledRegisters (x .state .registers) k next left
         → valid ≡ flagsAfter (x .state .cache .frames) (x .state .registers .omf) (x .state .registers .frames) (live - k) (x .state .cache .valid)
         → Promise store (ON (CHANGE (ROLLBACK k))) x (outcome 0) (after (stateOf t (withFlags (x .state .cache) valid)))
-        × RolledTo (x .state) (x .memory .groups) (x .memory .history) k (stateOf t (withFlags (x .state .cache) valid)) groups history
+        × RolledTo (x .state) (x .memory .groups) (x .memory .owners) (x .memory .history) k (stateOf t (withFlags (x .state .cache) valid)) groups history
     unfolding rolledState forgotten
     rollback-drops t valid e flags =
-        let same : stateOf t (withFlags (x .state .cache) valid) ≡ rolledState (x .state) k next =
+        let same : stateOf t (withFlags (x .state .cache) valid) ≡ rolledState (x .state) k next left =
         λ i. stateOf (e i) (withFlags (x .state .cache) ((flags ∙ ap (λ (n : ℕ). flagsAfter (x .state .cache .frames) (x .state .registers .omf) (x .state .registers .frames) n (x .state .cache .valid)) kept-is) i))
         in (
           subst (λ (s : State). Promise store (ON (CHANGE (ROLLBACK k))) x (outcome 0) (after s)) (sym same) promised,
-          subst (λ (s : State). RolledTo (x .state) (x .memory .groups) (x .memory .history) k s groups history) (sym same) (record { state = refl; memory = exact }),
+          subst (λ (s : State). RolledTo (x .state) (x .memory .groups) (x .memory .owners) (x .memory .history) k s groups history) (sym same) (record { state = refl; pages = left-is; memory = exact }),
         )

@@ -34,7 +34,7 @@ use Rattle.written.specs.Steps.{blanked, AsksReset}
 use Rattle.written.specs.Well.{WellBits}
 use Rattle.written.proofs.Keeping.{started-effective, started-well}
 use Rattle.pages.specs.Lines.{archiveLine}
-use Rattle.pages.proofs.Keeping.{started-confirmed}
+use Rattle.pages.proofs.Keeping.{started-ring}
 use Rattle.cache.specs.declared.Cache.{Cache}
 use Rattle.cache.specs.Steps.{emptied}
 use Rattle.cache.proofs.Uses.{empty-shown, empty-all, empty-sized}
@@ -49,9 +49,9 @@ use Rattle.storage.proofs.Looking.{turned-down, let-through}
 
 -- The state in the form in which the code builds it.
 pub fresh-told : (lines frames pages : ℕ) (held : Cache) → held ≡ emptied
-    → stateOf (record { lines = lines; frames = frames; pages = pages; cmf = 0; omf = 0; tag = 0; hint = 0 }) held ≡ freshState lines frames pages
+    → stateOf (record { lines = lines; frames = frames; pages = pages; cmf = 0; omf = 0; tag = 0; first = 0; used = 0 }) held ≡ freshState lines frames pages
 unfolding freshState
-fresh-told lines frames pages held e = ap (stateOf (record { lines = lines; frames = frames; pages = pages; cmf = 0; omf = 0; tag = 0; hint = 0 })) e
+fresh-told lines frames pages held e = ap (stateOf (record { lines = lines; frames = frames; pages = pages; cmf = 0; omf = 0; tag = 0; first = 0; used = 0 })) e
 
 -- A line of the archive that is all zero.
 zero-line : (lines : ℕ) (archive : List ℕ) (l : ℕ) → l < lines → 16 * lines ≤ length archive → archiveLine (zeroed lines archive) l ≡ zeros
@@ -154,7 +154,9 @@ module _ (asked : Settings) (m : Storage) (good : Good asked) (long : Long (elem
         fits = facts-fit (atStart asked) (record { limits = good-within asked good; cmf-below = some-frames; omf-below = some-frames });
         long = subst (λ (p : Pieces). enough asked p ≡ true) (sym lengths) long-enough;
         bits = subst (WellBits (writtenIn begun) 0) (sym live) (started-well lines (asked .frames) (m .memory .groups) (m .memory .history) some-lines (good .lines-to) (good .frames-by) some-frames few-frames groups-long history-long);
-        pages = started-confirmed lines (asked .frames) (m .memory .groups) (m .memory .history) some-lines (good .lines-to) (good .frames-by) some-frames few-frames groups-long history-long (asked .pages) (λ y. getD (m .memory .table) y 0) (λ p. getD (m .memory .owners) p 0);
+        pages =
+            started-ring (writtenIn begun) (asked .pages) (m .memory .table) (m .memory .owners) (good .pages-from)
+            (started-effective lines (asked .frames) (m .memory .groups) (m .memory .history) some-lines (good .lines-to) (good .frames-by) some-frames few-frames groups-long history-long);
         sized = empty-sized;
         version-line = step-versions begun asked initial begun-figure (initial-well asked good);
         archive-line = step-archive begun asked initial begun-figure (initial-well asked good);

@@ -32,11 +32,12 @@ use Rattle.pages.specs.Table.{placeAt}
 use Rattle.cache.specs.declared.Cache.{Cache}
 use Rattle.cache.specs.Steps.{placed}
 use Rattle.versions.specs.declared.Version.{Version}
-use Rattle.versions.specs.Newest.{entryPlace, latestOf}
-use Rattle.versions.specs.Steps.{pageFor, hintFor}
+use Rattle.versions.specs.Newest.{entryAt, latestOf}
+use Rattle.versions.specs.Steps.{pageFor, usedFor}
 use Rattle.versions.proofs.Finding.{entry-within}
-use Rattle.storage.specs.Storage.{Storage, stateOf, Memory, memoryOf, settingsIn, registersIn, lengthsIn, pastIn, liveIn, writtenIn, WellStore, store}
-use Rattle.storage.specs.Steps.{hintedRegisters, usedState, contentAfter, currentPlace, WroteTo, Put, AsksWrite}
+use Rattle.storage.specs.Storage.{Storage, stateOf, ringAt, Memory, memoryOf, settingsIn, registersIn, lengthsIn, pastIn, liveIn, writtenIn, WellStore, store}
+use Rattle.storage.specs.Steps.{givenRegisters, usedState, contentAfter, currentPlace, currentEntry, WroteTo, Put, AsksWrite}
+use Rattle.storage.proofs.Rings.{start-below}
 use Rattle.storage.proofs.Admitting.{Room, room-lent, room-newest}
 use Rattle.storage.proofs.Chains.{write-stands, write-decides, write-room}
 use Rattle.storage.proofs.Looking.{admittedIn, turned-down}
@@ -50,8 +51,8 @@ pub put-told : (x : Storage) (wd a v live page : ℕ) (latest : Version)
     → latest ≡ latestOf (x .state .cache) (writtenIn x) (x .state .registers .pages) live (x .memory .archive) (x .memory .pool) (x .memory .table) (lineOf a)
     → (content : Line) → content ≡ edit wd (offsetOf a) v (latest .content) → length content ≡ 16 → (pool groups table owners : List ℕ)
     → pool ≡ withPageLine (x .memory .pool) page (lineOf a % 8) content → groups ≡ withWritten (writtenIn x) (x .state .registers .tag % 256) (lineOf a) (live - 1)
-    → table ≡ set (x .memory .table) (entryPlace (x .state .registers .lines) (frameAt (x .state .registers .frames) (x .state .registers .omf) (live - 1)) (lineOf a)) page
-    → owners ≡ set (x .memory .owners) page (entryPlace (x .state .registers .lines) (frameAt (x .state .registers .frames) (x .state .registers .omf) (live - 1)) (lineOf a))
+    → table ≡ set (x .memory .table) (entryAt (x .state .registers .lines) (frameAt (x .state .registers .frames) (x .state .registers .omf) (live - 1)) (lineOf a)) page
+    → owners ≡ set (x .memory .owners) page (placeAt (frameAt (x .state .registers .frames) (x .state .registers .omf) (live - 1)) (lineOf a / 8))
     → (cache : Cache) → cache ≡ placed (x .state .cache) (lineOf a) (x .state .registers .cmf) content
     → Put x wd a v live page cache (memoryOf (x .memory .archive) pool groups table owners (x .memory .history))
 put-told x wd a v live page latest found content is whole pool groups table owners ep eg et eo cache e =
@@ -67,8 +68,12 @@ module _ (x : Storage) (wd a v r : ℕ) (told : r ≡ admittedIn x (writeRefusal
   abbrev l : ℕ
   l = lineOf a
 
-  abbrev choice : (hint : ℕ) → Found
-  choice hint = pageFor (writtenIn x) (x .state .registers .pages) hint (x .memory .table) (x .memory .owners) (x .state .registers .cmf) l
+  -- the page that the code asks for, and how many are in use then
+  abbrev choice : Found
+  choice = pageFor (x .state .registers .lines) (x .state .registers .pages) (ringAt (x .state .registers) .first) (ringAt (x .state .registers) .used) (x .memory .table) (x .memory .owners) (x .state .registers .cmf) l
+
+  abbrev used-then : ℕ
+  used-then = usedFor (x .state .registers .lines) (x .state .registers .pages) (ringAt (x .state .registers) .first) (ringAt (x .state .registers) .used) (x .memory .table) (x .memory .owners) (x .state .registers .cmf) l
 
   chain : (rest : ℕ) → r ≢ 0 → r ≡ admittedIn x (writeRefusal (settingsIn (x .state)) wd a v rest)
   chain rest z = write-stands (registersIn (x .state)) (lengthsIn (x .memory)) wd a v r told z rest
@@ -90,8 +95,13 @@ module _ (x : Storage) (wd a v r : ℕ) (told : r ≡ admittedIn x (writeRefusal
     room : Room (registersIn (x .state)) (lengthsIn (x .memory))
     room = write-room (registersIn (x .state)) (lengthsIn (x .memory)) r wd a v told z .0 .room
 
+    page-few : (page : ℕ) → choice ≡ At page → page < x .state .registers .pages
+    page-few page found =
+        page-below (x .state .registers .lines) (x .state .registers .pages) (ringAt (x .state .registers) .first) (ringAt (x .state .registers) .used) (x .memory .table) (x .memory .owners) (x .state .registers .cmf) l page
+        (start-below (x .state .registers .first) (x .state .registers .pages) (room .good .pages-from)) found
+
     -- what the layers ask
-    pub asks-write : (live page : ℕ) → live ≡ liveIn (x .state) → choice (x .state .registers .hint) ≡ At page → AsksWrite x wd a live page
+    pub asks-write : (live page : ℕ) → live ≡ liveIn (x .state) → choice ≡ At page → AsksWrite x wd a live page
     unfolding elements
     asks-write live page e found =
         let newest = room-newest (registersIn (x .state)) (length (x .memory .owners)) (x .memory .archive) (x .memory .pool) (x .memory .groups) (x .memory .table) (x .memory .history) room live l e below in
@@ -104,7 +114,7 @@ module _ (x : Storage) (wd a v r : ℕ) (told : r ≡ admittedIn x (writeRefusal
                 index-below = omega (arith, newest .live-some, newest .live-within);
                 tag-below = omega arith;
                 pages-few = room .good .pages-to;
-                page-below = page-below (writtenIn x) (x .state .registers .pages) (x .state .registers .hint) (x .memory .table) (x .memory .owners) (x .state .registers .cmf) l page found;
+                page-below = page-few page found;
                 pool-long = room .long .pool;
                 owners-long = room .long .owners;
               };
@@ -113,32 +123,29 @@ module _ (x : Storage) (wd a v r : ℕ) (told : r ≡ admittedIn x (writeRefusal
         }
 
     -- 13
-    pub write-full : choice (x .state .registers .hint) ≡ Nothing → Promise store (ON (CHANGE (WRITE wd a v))) x (outcome 13) x
+    pub write-full : choice ≡ Nothing → Promise store (ON (CHANGE (WRITE wd a v))) x (outcome 13) x
     unfolding refusal actRefusal factsBy refused unless lacks
     write-full e =
         subst (λ (n : ℕ). Promise store (ON (CHANGE (WRITE wd a v))) x (outcome n) x) (sym (decides 13))
-        (refuse store (ON (CHANGE (WRITE wd a v))) x (λ c. true) (λ q. lacking-own store x (CHANGE (WRITE wd a v)) true (sym (none-chosen x q l below (x .state .registers .hint) e))) (λ d. let n : _≡_ {A = ℕ} 13 0 = decides 13 ∙ d in absurd (omega arith)))
+        (refuse store (ON (CHANGE (WRITE wd a v))) x (λ c. true) (λ q. lacking-own store x (CHANGE (WRITE wd a v)) true (sym (none-chosen x q l below e))) (λ d. let n : _≡_ {A = ℕ} 13 0 = decides 13 ∙ d in absurd (omega arith)))
 
-    module _ (picked : Found) (picked-is : picked ≡ choice (x .state .registers .hint)) (page : ℕ) (at-page : picked ≡ At page) (live : ℕ) (live-is : live ≡ liveIn (x .state)) (cache : Cache) (memory : Memory) (put : Put x wd a v live page cache memory)
-        (next : ℕ) (next-told : next ≡ hintFor (writtenIn x) (x .state .registers .hint) (x .state .registers .cmf) l picked) where
+    module _ (picked : Found) (picked-is : picked ≡ choice) (page : ℕ) (at-page : picked ≡ At page) (live : ℕ) (live-is : live ≡ liveIn (x .state)) (cache : Cache) (memory : Memory) (put : Put x wd a v live page cache memory)
+        (next : ℕ) (next-is : next ≡ used-then) where
       abbrev t : Storage
-      t = record { state = stateOf (hintedRegisters (x .state .registers) next) cache; memory = memory }
+      t = record { state = stateOf (givenRegisters (x .state .registers) next) cache; memory = memory }
 
-      abbrev behind : ℕ
-      behind = hintFor (writtenIn x) (x .state .registers .hint) (x .state .registers .cmf) l (At page)
-
-      next-is : next ≡ behind
-      next-is = next-told ∙ ap (hintFor (writtenIn x) (x .state .registers .hint) (x .state .registers .cmf) l) at-page
-
-      found : choice (x .state .registers .hint) ≡ At page
+      found : choice ≡ At page
       found = sym picked-is ∙ at-page
 
-      page-few : page < x .state .registers .pages
-      page-few = page-below (writtenIn x) (x .state .registers .pages) (x .state .registers .hint) (x .memory .table) (x .memory .owners) (x .state .registers .cmf) l page found
+      below-pages : page < x .state .registers .pages
+      below-pages = page-few page found
 
       -- Inside the lent memory, on any storage.
       abbrev entry : ℕ
-      entry = entryPlace (x .state .registers .lines) (frameAt (x .state .registers .frames) (x .state .registers .omf) (live - 1)) l
+      entry = entryAt (x .state .registers .lines) (frameAt (x .state .registers .frames) (x .state .registers .omf) (live - 1)) l
+
+      abbrev place : ℕ
+      place = placeAt (frameAt (x .state .registers .frames) (x .state .registers .omf) (live - 1)) (l / 8)
 
       pool-room : 128 * x .state .registers .pages ≤ length (x .memory .pool)
       unfolding elements
@@ -153,10 +160,10 @@ module _ (x : Storage) (wd a v r : ℕ) (told : r ≡ admittedIn x (writeRefusal
           ∙ (λ i.
           record {
             archive = length (x .memory .archive);
-            pool = length-written (x .memory .pool) (put .content) at (omega (arith, pool-room, page-few)) (put .content-long) i;
+            pool = length-written (x .memory .pool) (put .content) at (omega (arith, pool-room, below-pages)) (put .content-long) i;
             groups = written-long (writtenIn x) (x .state .registers .tag % 256) l (live - 1) i;
             table = length-set (x .memory .table) entry page i;
-            owners = length-set (x .memory .owners) page entry i;
+            owners = length-set (x .memory .owners) page place i;
             history = length (x .memory .history);
           })
 
@@ -166,10 +173,10 @@ module _ (x : Storage) (wd a v r : ℕ) (told : r ≡ admittedIn x (writeRefusal
           ap (pastIn (elements (settingsIn (x .state)))) (put .memory-is)
           ∙ (λ i.
           memoryOf (drop (16 * x .state .registers .lines) (x .memory .archive))
-          (past-written (x .memory .pool) (put .content) at (omega (arith, pool-room, page-few)) (put .content-long) (128 * x .state .registers .pages) (omega (arith, page-few)) i)
+          (past-written (x .memory .pool) (put .content) at (omega (arith, pool-room, below-pages)) (put .content-long) (128 * x .state .registers .pages) (omega (arith, below-pages)) i)
           (written-past (writtenIn x) (x .state .registers .tag % 256) l (live - 1) lent below i)
           (drop-set (x .memory .table) entry (x .state .registers .frames * (x .state .registers .lines / 8)) page (entry-within (x .state .registers .lines) (x .state .registers .frames) (frameAt (x .state .registers .frames) (x .state .registers .omf) (live - 1)) l (room .good .lines-by) (frame-below (x .state .registers .frames) (x .state .registers .omf) (room .fits .omf-below) (live - 1)) below) i)
-          (drop-set (x .memory .owners) page (x .state .registers .pages) entry page-few i)
+          (drop-set (x .memory .owners) page (x .state .registers .pages) place below-pages i)
           (drop 256 (x .memory .history)))
         where
           lent : Lent (writtenIn x)
@@ -178,8 +185,8 @@ module _ (x : Storage) (wd a v r : ℕ) (told : r ≡ admittedIn x (writeRefusal
 
       -- What it is on well-formed storage.
       module _ (q : WellStore x) where
-        abbrev c : Chosen x q l below page
-        c = chosen x q l below (x .state .registers .hint) page found
+        abbrev c : Chosen x q l below page used-then
+        c = chosen x q l below page found
 
         same-content : put .content ≡ contentAfter x wd a v
         unfolding contentAfter
@@ -188,32 +195,39 @@ module _ (x : Storage) (wd a v r : ℕ) (told : r ≡ admittedIn x (writeRefusal
             ∙ (ap (λ (m : ℕ). edit wd (offsetOf a) v (latestOf (x .state .cache) (writtenIn x) (x .state .registers .pages) m (x .memory .archive) (x .memory .pool) (x .memory .table) l .content)) live-is
             ∙ ap (edit wd (offsetOf a) v) (latest-told x q l below _ refl .0))
 
-        same-state : t .state ≡ usedState (x .state) behind (placed (x .state .cache) l (x .state .registers .cmf) (contentAfter x wd a v))
+        same-state : t .state ≡ usedState (x .state) used-then (placed (x .state .cache) l (x .state .registers .cmf) (contentAfter x wd a v))
         unfolding usedState
         same-state =
-            ap₂ (λ (n : ℕ) (y : Cache). stateOf (hintedRegisters (x .state .registers) n) y) next-is
+            ap₂ (λ (n : ℕ) (y : Cache). stateOf (givenRegisters (x .state .registers) n) y) next-is
             (put .cache-is ∙ ap (placed (x .state .cache) l (x .state .registers .cmf)) same-content)
 
         same-memory : t .memory
             ≡ memoryOf (x .memory .archive) (withPageLine (x .memory .pool) page (l % 8) (contentAfter x wd a v)) (withWritten (writtenIn x) (x .state .registers .tag) l (liveIn (x .state) - 1))
-            (set (x .memory .table) (currentPlace x l) page) (set (x .memory .owners) page (currentPlace x l)) (x .memory .history)
-        unfolding placeAt
+            (set (x .memory .table) (currentEntry x l) page) (set (x .memory .owners) page (currentPlace x l)) (x .memory .history)
         same-memory =
             let tag : x .state .registers .tag % 256 ≡ x .state .registers .tag = omega (arith, q .bits .tag-below) in
             put .memory-is
             ∙ (λ i.
             memoryOf (x .memory .archive) (withPageLine (x .memory .pool) page (l % 8) (same-content i)) (withWritten (writtenIn x) (tag i) l (live-is i - 1))
-            (set (x .memory .table) (entryPlace (x .state .registers .lines) (frameAt (x .state .registers .frames) (x .state .registers .omf) (live-is i - 1)) l) page)
-            (set (x .memory .owners) page (entryPlace (x .state .registers .lines) (frameAt (x .state .registers .frames) (x .state .registers .omf) (live-is i - 1)) l)) (x .memory .history))
+            (set (x .memory .table) (entryAt (x .state .registers .lines) (frameAt (x .state .registers .frames) (x .state .registers .omf) (live-is i - 1)) l) page)
+            (set (x .memory .owners) page (placeAt (frameAt (x .state .registers .frames) (x .state .registers .omf) (live-is i - 1)) (l / 8))) (x .memory .history))
 
         pub write-left : WroteTo x wd a v t
-        write-left = record { page = page; page-below = page-few; page-own = c .own; page-free = c .unheld; state = same-state; memory = same-memory }
+        write-left =
+            record {
+              state = same-state ∙ ap (λ (u : ℕ). usedState (x .state) u (placed (x .state .cache) l (x .state .registers .cmf) (contentAfter x wd a v))) (c .used-is);
+              memory =
+                  same-memory
+                  ∙ ap
+                  (λ (p : ℕ). memoryOf (x .memory .archive) (withPageLine (x .memory .pool) p (l % 8) (contentAfter x wd a v)) (withWritten (writtenIn x) (x .state .registers .tag) l (liveIn (x .state) - 1))
+                  (set (x .memory .table) (currentEntry x l) p) (set (x .memory .owners) p (currentPlace x l)) (x .memory .history)) (c .page-is);
+            }
 
         followed : Followed store (CHANGE (WRITE wd a v)) x (outcome 0) t
         unfolding contentAfter
         followed =
             subst (λ (y : Storage). Followed store (CHANGE (WRITE wd a v)) x (outcome 0) y) (sym (λ i. record { state = same-state i; memory = same-memory i }))
-            (stored-followed x q wd a v placed-there below behind page c)
+            (stored-followed x q wd a v placed-there below used-then page c)
 
       pub write-done : Promise store (ON (CHANGE (WRITE wd a v))) x (outcome 0) t
       unfolding refusal actRefusal factsBy refused unless settingsFor lacks registersStep

@@ -25,7 +25,6 @@ use Rattle.rules.proofs.WellCache.{use-well}
 use Rattle.frames.specs.Lines.{lineAt}
 use Rattle.frames.specs.declared.Found.{Found}
 use Rattle.written.specs.Bits.{newestFrom}
-use Rattle.pages.specs.Table.{placeAt}
 use Rattle.cache.specs.declared.Cache.{Cache}
 use Rattle.cache.specs.declared.Entry.{Entry}
 use Rattle.cache.specs.declared.Entry.the-variants.{Hit, Miss}
@@ -41,7 +40,7 @@ use Rattle.versions.specs.Newest.{pageOf, spotOf, contentOf, originOf, newestOf
 use Rattle.versions.proofs.Finding.{spot-below, latest-hit, latest-miss}
 use Rattle.storage.specs.declared.State.{State}
 use Rattle.storage.specs.Storage.{Storage, stateOf, settingsIn, registersIn, lengthsIn, liveIn, writtenIn, frameIn, archiveIn, versionAt, latestIn, newestFrame, Recent, WellStore, store}
-use Rattle.storage.specs.Steps.{hintedRegisters, usedState, readState}
+use Rattle.storage.specs.Steps.{givenRegisters, usedState, readState}
 use Rattle.storage.proofs.Chains.{admitted-rest, line-room}
 use Rattle.storage.proofs.Looking.{admittedIn, turned-down, let-through}
 use Rattle.storage.proofs.Numbers.{used-number}
@@ -60,11 +59,11 @@ module _ (x : Storage) (q : WellStore x) (l : ℕ) (b : l < x .state .registers 
   used-cache = placed-shown (x .state .cache) (q .sized) l (newestFrame x l) (latestIn x l) long
 
   used-newest : (m : ℕ) → newestFrame used m ≡ newestFrame x m
-  unfolding newestFrame readState usedState frameIn versionAt placeAt pageOf
-  used-newest m = used-number (x .state) (x .state .registers .hint) (placed (x .state .cache) l (newestFrame x l) (latestIn x l)) (foundIn (liveIn (x .state)) (λ j. isWritten (frameIn x j m)))
+  unfolding newestFrame readState usedState frameIn versionAt pageOf
+  used-newest m = used-number (x .state) (x .state .registers .used) (placed (x .state .cache) l (newestFrame x l) (latestIn x l)) (foundIn (liveIn (x .state)) (λ j. isWritten (frameIn x j m)))
 
   used-well : WellStore used
-  unfolding readState usedState frameIn archiveIn versionAt latestIn placeAt pageOf
+  unfolding readState usedState frameIn archiveIn versionAt latestIn pageOf
   used-well =
       record {
         fits = q .fits;
@@ -79,10 +78,10 @@ module _ (x : Storage) (q : WellStore x) (l : ℕ) (b : l < x .state .registers 
       }
 
 -- The state after a use of a line, as the code has it.
-pub used-done : (s : State) (hint line frame : ℕ) (content : List ℕ) (k : Cache) → k ≡ placed (s .cache) line frame content
-    → stateOf (hintedRegisters (s .registers) hint) k ≡ usedState s hint (placed (s .cache) line frame content)
+pub used-done : (s : State) (used line frame : ℕ) (content : List ℕ) (k : Cache) → k ≡ placed (s .cache) line frame content
+    → stateOf (givenRegisters (s .registers) used) k ≡ usedState s used (placed (s .cache) line frame content)
 unfolding usedState
-used-done s hint line frame content k e = ap (stateOf (hintedRegisters (s .registers) hint)) e
+used-done s used line frame content k e = ap (stateOf (givenRegisters (s .registers) used)) e
 
 module _ (x : Storage) (w a : ℕ) where
   abbrev l : ℕ
@@ -92,7 +91,7 @@ module _ (x : Storage) (w a : ℕ) where
   due = reading 0 (valueAt w (offsetOf a) (latestIn x l)) (cond (holds (shown (x .state .cache)) l) from-cache (from (seenOf store x .origin l)))
 
   read-followed : (q : WellStore x) (b : l < x .state .registers .lines) → Followed store (READ w a) x due (used x q l b)
-  unfolding accepted figureStep cacheStep readState usedState frameIn archiveIn versionAt placeAt seenOf figureSeen mrv latestIn pageOf
+  unfolding accepted figureStep cacheStep readState usedState frameIn archiveIn versionAt seenOf figureSeen mrv latestIn pageOf
   read-followed q b =
       record {
         answer = refl;
@@ -114,7 +113,7 @@ module _ (x : Storage) (w a : ℕ) where
       module _ (live : ℕ) (live-is : live ≡ liveIn (x .state)) (v : Version)
           (found : v ≡ latestOf (x .state .cache) (writtenIn x) (x .state .registers .pages) live (x .memory .archive) (x .memory .pool) (x .memory .table) l)
           (value : ℕ) (valued : value ≡ valueAt w (offsetOf a) (v .content)) (s : State)
-          (is : s ≡ usedState (x .state) (x .state .registers .hint) (placed (x .state .cache) l (v .frame) (v .content))) where
+          (is : s ≡ usedState (x .state) (x .state .registers .used) (placed (x .state .cache) l (v .frame) (v .content))) where
         module _ (q : WellStore x) where
           b : l < x .state .registers .lines
           b = line-below place-known
@@ -127,7 +126,7 @@ module _ (x : Storage) (w a : ℕ) where
           read-state : s ≡ readState x l
           unfolding readState
           read-state =
-              is ∙ ap₂ (λ (f : ℕ) (y : Line). usedState (x .state) (x .state .registers .hint) (placed (x .state .cache) l f y)) (facts .1) (facts .0)
+              is ∙ ap₂ (λ (f : ℕ) (y : Line). usedState (x .state) (x .state .registers .used) (placed (x .state .cache) l f y)) (facts .1) (facts .0)
 
           read-answer : reading 0 value (originOf (v .origin)) ≡ due
           read-answer = ap₂ (reading 0) (valued ∙ ap (valueAt w (offsetOf a)) (facts .0)) (facts .2)
@@ -163,9 +162,9 @@ module _ (x : Storage) (w a : ℕ) where
               latest-hit (c .lines) (c .frames) (c .valid) (c .bytes) (writtenIn x) (x .state .registers .pages) live l (x .memory .archive) (x .memory .pool) (x .memory .table) f f-is
               e (frameOf c e) content at-entry content-is refl
 
-          after-is : after ≡ usedState (x .state) (x .state .registers .hint) (placed c l (frameOf c e) content)
+          after-is : after ≡ usedState (x .state) (x .state .registers .used) (placed c l (frameOf c e) content)
           after-is =
-              used-done (x .state) (x .state .registers .hint) l (frameOf c e) content _
+              used-done (x .state) (x .state .registers .used) l (frameOf c e) content _
               (hit-placed c l e (sym f-is ∙ at-entry) last last-is ∙ ap (placed c l (frameOf c e)) (sym content-is))
 
           pub hit-told : Promise store (ON (READ w a)) x (reading 0 value (originOf origin.Cache)) (record { state = after; memory = x .memory })
@@ -183,8 +182,8 @@ module _ (x : Storage) (w a : ℕ) where
               latest-miss (c .lines) (c .frames) (c .valid) (c .bytes) (writtenIn x) (x .state .registers .pages) live l (x .memory .archive) (x .memory .pool) (x .memory .table) f f-is
               v missed v-is
 
-          loaded-is : stateOf (x .state .registers) k ≡ usedState (x .state) (x .state .registers .hint) (placed c l (v .frame) (v .content))
-          loaded-is = used-done (x .state) (x .state .registers .hint) l (v .frame) (v .content) k k-is
+          loaded-is : stateOf (x .state .registers) k ≡ usedState (x .state) (x .state .registers .used) (placed c l (v .frame) (v .content))
+          loaded-is = used-done (x .state) (x .state .registers .used) l (v .frame) (v .content) k k-is
 
           pub miss-told : Promise store (ON (READ w a)) x (reading 0 value (originOf (v .origin))) (record { state = stateOf (x .state .registers) k; memory = x .memory })
           miss-told = read-told live live-is v found-is value valued (stateOf (x .state .registers) k) loaded-is

@@ -33,22 +33,23 @@ use Rattle.written.specs.Steps.{withWritten}
 use Rattle.written.proofs.Setting.{set-effective}
 use Rattle.written.proofs.Keeping.{set-keeps}
 use Rattle.pages.specs.Lines.{pageLine, withPageLine}
-use Rattle.pages.specs.Table.{neededAt, placeAt}
+use Rattle.pages.specs.Table.{neededAt, placeAt, entryOf}
 use Rattle.pages.proofs.Places.{page-other}
-use Rattle.pages.proofs.Keeping.{place-within, effective-needed}
+use Rattle.pages.proofs.Needs.{effective-needed}
 use Rattle.cache.specs.Steps.{placed}
 use Rattle.cache.specs.Shown.{shown}
 use Rattle.cache.proofs.Uses.{placed-sized, placed-shown, placed-all}
-use Rattle.versions.specs.Newest.{pageOf}
+use Rattle.versions.specs.Newest.{entryAt, pageOf}
+use Rattle.versions.proofs.Finding.{entry-within, place-entry}
 use Rattle.storage.specs.Storage.{Storage, storageOf, settingsIn, lengthsIn, liveIn, writtenIn, versionAt, frameIn, archiveIn, latestIn, frameNumber, newestFrame, Recent, Coherent, WellStore, store}
-use Rattle.storage.specs.Steps.{usedState}
+use Rattle.storage.specs.Steps.{usedState, currentFrame}
 use Rattle.storage.proofs.Limits.{Limits, limits, lent-long}
 use Rattle.storage.proofs.Past.{written-long}
 use Rattle.storage.proofs.Figures.{AlikeAt, frames-alike, frame-at, well-figure, step-versions, step-archive}
 use Rattle.storage.proofs.Numbers.{used-number}
 use Rattle.storage.proofs.Rows.{current-twice, current-version, current-found}
 use Rattle.storage.proofs.Reading.{latest-line}
-use Rattle.storage.proofs.Choosing.{Chosen, place, place-inside, cmf-frame, asks-table}
+use Rattle.storage.proofs.Choosing.{Chosen, place, entry, entry-is, cmf-frame, asks-table}
 
 none-off : (m : ℕ) → m - 0 ≡ m
 none-off m = omega arith
@@ -64,11 +65,11 @@ or-false false = refl
 digits : (m l : ℕ) → m / 8 ≡ l / 8 → m % 8 ≡ l % 8 → m ≡ l
 digits m l d e = omega arith
 
-module _ (x : Storage) (q : WellStore x) (wd a v : ℕ) (p : Placed (settingsIn (x .state)) wd a) (b : lineOf a < x .state .registers .lines) (hint page : ℕ) where
+module _ (x : Storage) (q : WellStore x) (wd a v : ℕ) (p : Placed (settingsIn (x .state)) wd a) (b : lineOf a < x .state .registers .lines) (used page : ℕ) where
   abbrev l : ℕ
   l = lineOf a
 
-  module _ (c : Chosen x q l b page) where
+  module _ (c : Chosen x q l b page used) where
     abbrev n : ℕ
     n = liveIn (x .state)
 
@@ -84,8 +85,8 @@ module _ (x : Storage) (q : WellStore x) (wd a v : ℕ) (p : Placed (settingsIn 
 
     abbrev pub stored : Storage
     stored =
-        storageOf (usedState (x .state) hint (placed (x .state .cache) l (x .state .registers .cmf) content)) (x .memory .archive) (withPageLine (x .memory .pool) page (l % 8) content)
-        (withWritten w (x .state .registers .tag) l (n - 1)) (set (x .memory .table) (place x q l b) page) (set (x .memory .owners) page (place x q l b)) (x .memory .history)
+        storageOf (usedState (x .state) used (placed (x .state .cache) l (x .state .registers .cmf) content)) (x .memory .archive) (withPageLine (x .memory .pool) page (l % 8) content)
+        (withWritten w (x .state .registers .tag) l (n - 1)) (set (x .memory .table) (entry x q l b) page) (set (x .memory .owners) page (place x q l b)) (x .memory .history)
 
     whole : length content ≡ 16
     whole =
@@ -101,10 +102,10 @@ module _ (x : Storage) (q : WellStore x) (wd a v : ℕ) (p : Placed (settingsIn 
 
     lengths : lengthsIn (stored .memory) ≡ lengthsIn (x .memory)
     lengths =
-        ap₂ (λ (m g : ℕ). record { archive = length (x .memory .archive); pool = m; groups = g; table = length (set (x .memory .table) (place x q l b) page); owners = length (set (x .memory .owners) page (place x q l b)); history = length (x .memory .history) })
+        ap₂ (λ (m g : ℕ). record { archive = length (x .memory .archive); pool = m; groups = g; table = length (set (x .memory .table) (entry x q l b) page); owners = length (set (x .memory .owners) page (place x q l b)); history = length (x .memory .history) })
         (length-written (x .memory .pool) content (128 * page + 16 * (l % 8)) (omega (arith, page-room)) whole) (written-long w (x .state .registers .tag) l (n - 1))
         ∙ ap₂ (λ (t o : ℕ). record { archive = length (x .memory .archive); pool = length (x .memory .pool); groups = length (x .memory .groups); table = t; owners = o; history = length (x .memory .history) })
-        (length-set (x .memory .table) (place x q l b) page) (length-set (x .memory .owners) page (place x q l b))
+        (length-set (x .memory .table) (entry x q l b) page) (length-set (x .memory .owners) page (place x q l b))
 
     asks : Asks w l (n - 1)
     asks = record { lent = q .bits .lent; line-below = b; index-below = omega (arith, lim .live-some, lim .live-most) }
@@ -115,47 +116,73 @@ module _ (x : Storage) (q : WellStore x) (wd a v : ℕ) (p : Placed (settingsIn 
 
     -- A version of another line or frame stays as it was.
     abbrev spot : (index line : ℕ) → ℕ
-    spot i m = placeAt w (frameAt (x .state .registers .frames) (x .state .registers .omf) i) (m / 8)
+    spot i m = placeAt (frameAt (x .state .registers .frames) (x .state .registers .omf) i) (m / 8)
+
+    abbrev spot-entry : (index line : ℕ) → ℕ
+    spot-entry i m = entryAt (x .state .registers .lines) (frameAt (x .state .registers .frames) (x .state .registers .omf) i) m
 
     in-block : (m : ℕ) → m < x .state .registers .lines → m / 8 < x .state .registers .lines / 8
     in-block m d = omega (arith, asks-table x q l b .lines-by)
 
+    spot-frame : (i m : ℕ) → m < x .state .registers .lines → spot i m ≡ place x q l b
+        → (frameAt (x .state .registers .frames) (x .state .registers .omf) i ≡ currentFrame x) × (m / 8 ≡ l / 8)
+    spot-frame i m d e = (omega (arith, in-block m d, in-block l b, lim .good .lines-to), omega (arith, in-block m d, in-block l b, lim .good .lines-to))
+
     spot-same : (i m : ℕ) → i < n → m < x .state .registers .lines → spot i m ≡ place x q l b → (i ≡ n - 1) × (m / 8 ≡ l / 8)
-    unfolding placeAt
     spot-same i m h d e =
         let omf = q .bits .lent .omf-below in
-        let frame : frameAt (x .state .registers .frames) (x .state .registers .omf) i ≡ frameAt (x .state .registers .frames) (x .state .registers .omf) (n - 1) =
-        sym (digits-div (frameAt (x .state .registers .frames) (x .state .registers .omf) i) (in-block m d)) ∙ (ap (λ (y : ℕ). y / (x .state .registers .lines / 8)) e ∙ digits-div (frameAt (x .state .registers .frames) (x .state .registers .omf) (n - 1)) (in-block l b))
-        in (
-          sym (index-frame (x .state .registers .frames) (x .state .registers .omf) omf i (omega (arith, lim .live-most))) ∙ (ap (indexOf (x .state .registers .frames) (x .state .registers .omf)) frame ∙ index-frame (x .state .registers .frames) (x .state .registers .omf) omf (n - 1) (asks .index-below)),
-          sym (digits-mod (frameAt (x .state .registers .frames) (x .state .registers .omf) i) (in-block m d)) ∙ (ap (λ (y : ℕ). y % (x .state .registers .lines / 8)) e ∙ digits-mod (frameAt (x .state .registers .frames) (x .state .registers .omf) (n - 1)) (in-block l b)),
+        let s = spot-frame i m d e in (
+          sym (index-frame (x .state .registers .frames) (x .state .registers .omf) omf i (omega (arith, lim .live-most))) ∙ (ap (indexOf (x .state .registers .frames) (x .state .registers .omf)) (s .0) ∙ index-frame (x .state .registers .frames) (x .state .registers .omf) omf (n - 1) (asks .index-below)),
+          s .1,
         )
 
+    -- places that differ have entries that differ
+    entry-same : (i m : ℕ) → m < x .state .registers .lines → spot-entry i m ≡ entry x q l b → spot i m ≡ place x q l b
+    entry-same i m d e =
+        let frame : frameAt (x .state .registers .frames) (x .state .registers .omf) i ≡ currentFrame x =
+        sym (digits-div (frameAt (x .state .registers .frames) (x .state .registers .omf) i) (in-block m d)) ∙ (ap (λ (y : ℕ). y / (x .state .registers .lines / 8)) e ∙ digits-div (currentFrame x) (in-block l b))
+        in
+        let block : m / 8 ≡ l / 8 =
+        sym (digits-mod (frameAt (x .state .registers .frames) (x .state .registers .omf) i) (in-block m d)) ∙ (ap (λ (y : ℕ). y % (x .state .registers .lines / 8)) e ∙ digits-mod (currentFrame x) (in-block l b))
+        in
+        ap₂ placeAt frame block
+
+    spot-at : (i m : ℕ) → m < x .state .registers .lines → entryOf w (spot i m) ≡ spot-entry i m
+    spot-at i m d = place-entry w (frameAt (x .state .registers .frames) (x .state .registers .omf) i) m (lim .good .lines-to) d
+
     spot-needed : (i m : ℕ) → i < n → m < x .state .registers .lines → effective w i m ≡ true → neededAt w (spot i m) ≡ true
-    spot-needed i m h d e = effective-needed w i m (q .bits .lent .omf-below) (omega (arith, lim .live-most)) (in-block m d) e
+    spot-needed i m h d e = effective-needed w i m (lim .good .lines-to) (q .bits .lent .omf-below) (omega (arith, lim .live-most)) (in-block m d) e
 
     abbrev old : (index line : ℕ) → ℕ
-    old i m = getD (x .memory .table) (spot i m) 0
+    old i m = getD (x .memory .table) (spot-entry i m) 0
 
-    table-room : place x q l b < length (x .memory .table)
-    table-room = omega (arith, place-inside x q l b, asks-table x q l b .table-long)
+    table-room : entry x q l b < length (x .memory .table)
+    table-room =
+        omega (
+          arith,
+          entry-within (x .state .registers .lines) (x .state .registers .frames) (currentFrame x) l (asks-table x q l b .lines-by) (frame-below (x .state .registers .frames) (x .state .registers .omf) (q .bits .lent .omf-below) (n - 1)) b,
+          asks-table x q l b .table-long,
+        )
 
     version-after : (i m : ℕ) → i < n → m < x .state .registers .lines → effective w i m ≡ true → (i ≡ n - 1 → m ≡ l → ⊥) → versionAt stored i m ≡ versionAt x i m
-    unfolding versionAt usedState placeAt pageOf
-    version-after i m h d e other = go (ℕ-discrete (spot i m) (place x q l b))
+    unfolding versionAt usedState pageOf
+    version-after i m h d e other = go (ℕ-discrete (spot-entry i m) (entry x q l b))
       where
-        go : Dec (spot i m ≡ place x q l b)
-            → pageLine (withPageLine (x .memory .pool) page (l % 8) content) (getD (set (x .memory .table) (place x q l b) page) (spot i m) 0) (m % 8) ≡ pageLine (x .memory .pool) (old i m) (m % 8)
+        go : Dec (spot-entry i m ≡ entry x q l b)
+            → pageLine (withPageLine (x .memory .pool) page (l % 8) content) (getD (set (x .memory .table) (entry x q l b) page) (spot-entry i m) 0) (m % 8) ≡ pageLine (x .memory .pool) (old i m) (m % 8)
         go (yes s) =
-            let same = spot-same i m h d s in
-            let own : old i m ≡ page = ap (λ (y : ℕ). getD (x .memory .table) y 0) s ∙ c .own (ap (neededAt w) (sym s) ∙ spot-needed i m h d e) in
-            ap (λ (y : ℕ). pageLine (withPageLine (x .memory .pool) page (l % 8) content) y (m % 8)) (ap (λ (y : ℕ). getD (set (x .memory .table) (place x q l b) page) y 0) s ∙ getD-set-same (x .memory .table) (place x q l b) page 0 table-room)
+            let here = entry-same i m d s in
+            let same = spot-same i m h d here in
+            let own : old i m ≡ page = ap (λ (y : ℕ). getD (x .memory .table) y 0) s ∙ c .own (ap (neededAt w) (sym here) ∙ spot-needed i m h d e) in
+            ap (λ (y : ℕ). pageLine (withPageLine (x .memory .pool) page (l % 8) content) y (m % 8)) (ap (λ (y : ℕ). getD (set (x .memory .table) (entry x q l b) page) y 0) s ∙ getD-set-same (x .memory .table) (entry x q l b) page 0 table-room)
             ∙ (page-other (x .memory .pool) content page (l % 8) page (m % 8) page-room whole (omega arith) (omega arith) (λ _ t. other (same .0) (digits m l (same .1) t))
             ∙ ap (λ (y : ℕ). pageLine (x .memory .pool) y (m % 8)) (sym own))
         go (no s) =
-            ap (λ (y : ℕ). pageLine (withPageLine (x .memory .pool) page (l % 8) content) y (m % 8)) (getD-set-other (x .memory .table) (place x q l b) (spot i m) page 0 s)
+            ap (λ (y : ℕ). pageLine (withPageLine (x .memory .pool) page (l % 8) content) y (m % 8)) (getD-set-other (x .memory .table) (entry x q l b) (spot-entry i m) page 0 s)
             ∙ page-other (x .memory .pool) content page (l % 8) (old i m) (m % 8) page-room whole (omega arith) (omega arith)
-            (λ t _. c .apart (spot i m) (place-within w (frameAt (x .state .registers .frames) (x .state .registers .omf) i) (m / 8) (frame-below (x .state .registers .frames) (x .state .registers .omf) (q .bits .lent .omf-below) i) (in-block m d)) (spot-needed i m h d e) s t)
+            (λ t _.
+            c .apart (spot i m) (omega (arith, in-block m d, lim .good .lines-to, frame-below (x .state .registers .frames) (x .state .registers .omf) (q .bits .lent .omf-below) i)) (spot-needed i m h d e)
+            (λ z. s (sym (spot-at i m d) ∙ (ap (entryOf w) z ∙ entry-is x q l b))) (ap (λ (y : ℕ). getD (x .memory .table) y 0) (spot-at i m d) ∙ t))
 
     -- The line written has its version in CMF,
     own-bit : effective (writtenIn stored) (n - 1) l ≡ true
@@ -164,9 +191,9 @@ module _ (x : Storage) (q : WellStore x) (wd a v : ℕ) (p : Placed (settingsIn 
         ∙ (ap₂ (λ (s t : Bool). effective w (n - 1) l || (s && t)) (eq-eqb (n - 1) (n - 1) refl) (eq-eqb l l refl) ∙ or-true (effective w (n - 1) l))
 
     own-version : versionAt stored (n - 1) l ≡ content
-    unfolding versionAt usedState placeAt pageOf
+    unfolding versionAt usedState pageOf
     own-version =
-        ap (λ (y : ℕ). pageLine (withPageLine (x .memory .pool) page (l % 8) content) y (l % 8)) (getD-set-same (x .memory .table) (place x q l b) page 0 table-room)
+        ap (λ (y : ℕ). pageLine (withPageLine (x .memory .pool) page (l % 8) content) y (l % 8)) (getD-set-same (x .memory .table) (entry x q l b) page 0 table-room)
         ∙ read-own (x .memory .pool) content (128 * page + 16 * (l % 8)) (omega (arith, page-room)) whole
 
     own-frame : frameIn stored 0 l ≡ some content
@@ -250,7 +277,7 @@ module _ (x : Storage) (q : WellStore x) (wd a v : ℕ) (p : Placed (settingsIn 
       unfolding newestFrame
       other-newest =
           ap₂ (λ (k : ℕ) (row : ℕ → Option Line). frameNumber (stored .state) (foundIn k (λ j. isWritten (row j)))) same-live (fun-ext (λ j. other-frame j m (λ _ t. other t)))
-          ∙ used-number (x .state) hint (placed (x .state .cache) l (x .state .registers .cmf) content) (foundIn n (λ j. isWritten (frameIn x j m)))
+          ∙ used-number (x .state) used (placed (x .state .cache) l (x .state .registers .cmf) content) (foundIn n (λ j. isWritten (frameIn x j m)))
 
     stored-cache : shown (stored .state .cache) ≡ use-line l (shown (x .state .cache))
     unfolding usedState
@@ -269,7 +296,7 @@ module _ (x : Storage) (q : WellStore x) (wd a v : ℕ) (p : Placed (settingsIn 
           fits = q .fits;
           long = subst (λ (r : Pieces). enough (settingsIn (x .state)) r ≡ true) (sym lengths) (q .long);
           bits = set-keeps w (x .state .registers .tag) n l (n - 1) (q .bits) asks (omega (arith, lim .live-some));
-          pages = c .confirmed;
+          pages = c .ring;
           sized = placed-sized (x .state .cache) (q .sized) l (x .state .registers .cmf) content whole;
           version-line = step-versions stored _ _ stored-figure next-well;
           archive-line = step-archive stored _ _ stored-figure next-well;

@@ -2,28 +2,28 @@
 use Prim.Native.Nat.{ℕ, _+_, _-_, _/_, _%_, _<_}
 use mathlib.Core.Path.{_≡_}
 use mathlib.Core.List.{List}
-use mathlib.Core.Bool.{true, false}
+use mathlib.Core.Bool.{cond}
 use lib.ListN.{length, getD, set}
 use Rattle.rules.specs.Line.{Line, edit, lineOf, offsetOf}
 use Rattle.frames.specs.Circle.{frameAt}
-use Rattle.frames.specs.declared.Found.the-variants.{At}
 use Rattle.written.specs.Bits.{writtenOf}
 use Rattle.written.specs.Steps.{RolledBack, withWritten, blanked, cleared, lowered}
 use Rattle.pages.specs.Lines.{withPageLine, AsksBytes}
-use Rattle.pages.specs.Table.{placeAt, neededAt, heldAt}
-use Rattle.versions.specs.Newest.{entryPlace, latestOf, AsksNewest}
-use Rattle.versions.specs.Steps.{zeroed, folded, hintFor, AsksPut}
+use Rattle.pages.specs.Table.{placeAt, neededAt}
+use Rattle.pages.specs.Ring.{pageAt, indexAt, Leading}
+use Rattle.versions.specs.Newest.{entryAt, latestOf, AsksNewest}
+use Rattle.versions.specs.Steps.{zeroed, folded, AsksPut}
 use Rattle.cache.specs.declared.Cache.{Cache}
 use Rattle.cache.specs.Steps.{emptied, placed, forgotten, collected}
 use Rattle.storage.specs.declared.Registers.{Registers}
 use Rattle.storage.specs.declared.State.{State}
-use Rattle.storage.specs.Storage.{Storage, Memory, memoryOf, stateOf, liveIn, writtenIn, latestIn, newestFrame, WellStore}
+use Rattle.storage.specs.Storage.{Storage, Memory, memoryOf, stateOf, ringAt, liveIn, writtenIn, latestIn, newestFrame, WellStore}
 
 -- RESET: "one live frame .., cache empty".
 unfoldable pub freshState : (lines frames pages : ℕ) → State
 freshState lines frames pages =
     record {
-      registers = record { lines = lines; frames = frames; pages = pages; cmf = 0; omf = 0; tag = 0; hint = 0 };
+      registers = record { lines = lines; frames = frames; pages = pages; cmf = 0; omf = 0; tag = 0; first = 0; used = 0 };
       cache = emptied;
     }
 
@@ -35,45 +35,54 @@ pub record ResetTo (lines frames pages : ℕ) (archive groups history : List ℕ
   pub groups-is : groups-after ≡ blanked lines frames groups
   pub history-is : history-after ≡ set history 0 65535
 
--- Other registers, tag and hint; the settings stay.
-abbrev pub registersWith : Registers → (cmf omf tag hint : ℕ) → Registers
-registersWith r cmf omf tag hint =
-    record { lines = r .lines; frames = r .frames; pages = r .pages; cmf = cmf; omf = omf; tag = tag; hint = hint }
+-- Other registers, tag and ring; the settings stay.
+abbrev pub registersWith : Registers → (cmf omf tag first used : ℕ) → Registers
+registersWith r cmf omf tag first used =
+    record { lines = r .lines; frames = r .frames; pages = r .pages; cmf = cmf; omf = omf; tag = tag; first = first; used = used }
 
 -- MARK: "opens the next frame".
 abbrev pub markedRegisters : Registers → Registers
-markedRegisters r = registersWith r ((r .cmf + 1) % r .frames) (r .omf) (r .tag) (r .hint)
+markedRegisters r = registersWith r ((r .cmf + 1) % r .frames) (r .omf) (r .tag) (r .first) (r .used)
 
 unfoldable pub markedState : State → State
 markedState s = stateOf (markedRegisters (s .registers)) (s .cache)
 
--- ROLLBACK(k): "drops the k newest frames", with the tag that the history has next.
-abbrev pub rolledRegisters : Registers → (k tag : ℕ) → Registers
-rolledRegisters r k tag = registersWith r ((r .cmf + r .frames - k) % r .frames) (r .omf) tag (r .hint)
+-- The pages of the frames with an index below a limit come first, on a ring; how many they are.
+abbrev pub PagesBelow : Registers → (owners : List ℕ) → (limit n : ℕ) → Type 0
+PagesBelow r owners limit n = Leading (ringAt r .used) (indexAt (r .frames) (r .omf) (r .pages) (ringAt r .first) owners) limit n
 
-unfoldable pub rolledState : State → (k tag : ℕ) → State
-rolledState s k tag =
-    stateOf (rolledRegisters (s .registers) k tag) (forgotten (s .cache) (s .registers .omf) (s .registers .frames) (liveIn s - k))
+-- ROLLBACK(k): "drops the k newest frames", with the tag that the history has next and the pages that are left.
+abbrev pub rolledRegisters : Registers → (k tag used : ℕ) → Registers
+rolledRegisters r k tag used = registersWith r ((r .cmf + r .frames - k) % r .frames) (r .omf) tag (r .first) used
 
--- What it leaves in all: the state with the next tag, and the groups and the history that go with it. The tag handed to the history is
--- the state's, cut to its 8 bits; which tag is next is the history's choice.
-pub record RolledTo (s : State) (groups history : List ℕ) (k : ℕ) (t : State) (groups-after history-after : List ℕ) : Type 0 where
-  pub state : t ≡ rolledState s k (t .registers .tag)
+unfoldable pub rolledState : State → (k tag used : ℕ) → State
+rolledState s k tag used =
+    stateOf (rolledRegisters (s .registers) k tag used) (forgotten (s .cache) (s .registers .omf) (s .registers .frames) (liveIn s - k))
+
+-- What it leaves in all: the state with the next tag and the pages of the frames that stay, and the groups and the history that go with it.
+-- The tag handed to the history is the state's, cut to its 8 bits; which tag is next is the history's choice.
+pub record RolledTo (s : State) (groups owners history : List ℕ) (k : ℕ) (t : State) (groups-after history-after : List ℕ) : Type 0 where
+  pub state : t ≡ rolledState s k (t .registers .tag) (t .registers .used)
+  pub pages : PagesBelow (s .registers) owners (liveIn s - k) (t .registers .used)
   pub memory :
       RolledBack (writtenOf (s .registers .lines) (s .registers .frames) (s .registers .omf) groups history) (s .registers .tag % 256) (liveIn s - k)
       groups-after history-after (t .registers .tag)
 
 -- ADVANCE(k): the k oldest frames are free, and entries of their lines "count as archive".
-abbrev pub advancedRegisters : Registers → (k : ℕ) → Registers
-advancedRegisters r k = registersWith r (r .cmf) ((r .omf + k) % r .frames) (r .tag) (r .hint)
+-- The ring starts behind the pages that are free.
+abbrev pub advancedRegisters : Registers → (k gone : ℕ) → Registers
+advancedRegisters r k gone =
+    registersWith r (r .cmf) ((r .omf + k) % r .frames) (r .tag) (pageAt (r .pages) (ringAt r .first) gone) (ringAt r .used - gone)
 
-unfoldable pub advancedState : State → (k : ℕ) → State
-advancedState s k =
-    stateOf (advancedRegisters (s .registers) k) (collected (s .cache) (s .registers .omf) (s .registers .frames) k)
+unfoldable pub advancedState : State → (k gone : ℕ) → State
+advancedState s k gone =
+    stateOf (advancedRegisters (s .registers) k gone) (collected (s .cache) (s .registers .omf) (s .registers .frames) k)
 
 -- What it leaves in all: the state, the archive with the versions of the k oldest frames, and the groups and the history that go with it.
-pub record AdvancedTo (s : State) (archive pool groups table history : List ℕ) (k : ℕ) (t : State) (archive-after groups-after history-after : List ℕ) : Type 0 where
-  pub state : t ≡ advancedState s k
+pub record AdvancedTo (s : State) (archive pool groups table owners history : List ℕ) (k : ℕ) (t : State) (archive-after groups-after history-after : List ℕ) : Type 0 where
+  pub gone : ℕ
+  pub pages : PagesBelow (s .registers) owners k gone
+  pub state : t ≡ advancedState s k gone
   pub archive-is :
       archive-after
       ≡ folded (writtenOf (s .registers .lines) (s .registers .frames) (s .registers .omf) groups history) (s .registers .pages) k pool table (s .registers .lines)
@@ -81,17 +90,17 @@ pub record AdvancedTo (s : State) (archive pool groups table history : List ℕ)
   pub groups-is : groups-after ≡ cleared (s .registers .lines) (s .registers .frames) (s .registers .omf) k groups
   pub history-is : history-after ≡ lowered k history
 
--- READ and WRITE: the cache after a use, and after a WRITE the hint for the next page.
-abbrev pub hintedRegisters : Registers → (hint : ℕ) → Registers
-hintedRegisters r hint = registersWith r (r .cmf) (r .omf) (r .tag) hint
+-- READ and WRITE: the cache after a use, and after a WRITE the pages in use.
+abbrev pub givenRegisters : Registers → (used : ℕ) → Registers
+givenRegisters r used = registersWith r (r .cmf) (r .omf) (r .tag) (r .first) used
 
-unfoldable pub usedState : State → (hint : ℕ) → Cache → State
-usedState s hint cache = stateOf (hintedRegisters (s .registers) hint) cache
+unfoldable pub usedState : State → (used : ℕ) → Cache → State
+usedState s used cache = stateOf (givenRegisters (s .registers) used) cache
 
 -- READ: "A hit moves its way to most recently used. A miss, of a read or a write, takes ..": the way taken has the line's most recent
 -- version.
 unfoldable pub readState : Storage → (line : ℕ) → State
-readState x l = usedState (x .state) (x .state .registers .hint) (placed (x .state .cache) l (newestFrame x l) (latestIn x l))
+readState x l = usedState (x .state) (x .state .registers .used) (placed (x .state .cache) l (newestFrame x l) (latestIn x l))
 
 -- On storage that CHECK passes.
 abbrev pub ReadTo : Storage → (line : ℕ) → State → Type 0
@@ -101,26 +110,38 @@ ReadTo x l t = WellStore x → t ≡ readState x l
 unfoldable pub contentAfter : Storage → (width address value : ℕ) → Line
 contentAfter x w a v = edit w (offsetOf a) v (latestIn x (lineOf a))
 
--- Where the table has the page of the line's block in CMF, whose index from OMF is one less than the live frames.
-abbrev pub currentPlace : Storage → (line : ℕ) → ℕ
-currentPlace x l = placeAt (writtenIn x) (frameAt (x .state .registers .frames) (x .state .registers .omf) (liveIn (x .state) - 1)) (l / 8)
+-- The place of the line's block in CMF, whose index from OMF is one less than the live frames, and where the table has its page.
+abbrev pub currentFrame : Storage → ℕ
+currentFrame x = frameAt (x .state .registers .frames) (x .state .registers .omf) (liveIn (x .state) - 1)
 
--- What it leaves in all, on storage that CHECK passes. The choice of page is free: it is the place's own where that is needed already,
--- and else one that is not held; the next search for a page starts behind one that was given out.
+abbrev pub currentPlace : Storage → (line : ℕ) → ℕ
+currentPlace x l = placeAt (currentFrame x) (l / 8)
+
+abbrev pub currentEntry : Storage → (line : ℕ) → ℕ
+currentEntry x l = entryAt (x .state .registers .lines) (currentFrame x) l
+
+-- The page that the line goes to, and how many are in use then: the place's own where it is needed already, and else the one behind the
+-- segment.
+unfoldable pub pageTaken : Storage → (line : ℕ) → ℕ
+pageTaken x l =
+    cond (neededAt (writtenIn x) (currentPlace x l)) (getD (x .memory .table) (currentEntry x l) 0)
+    (pageAt (x .state .registers .pages) (x .state .registers .first) (x .state .registers .used))
+
+unfoldable pub usedAfter : Storage → (line : ℕ) → ℕ
+usedAfter x l = cond (neededAt (writtenIn x) (currentPlace x l)) (x .state .registers .used) (x .state .registers .used + 1)
+
+-- What it leaves in all, on storage that CHECK passes.
 pub record WroteTo (x : Storage) (width address value : ℕ) (t : Storage) : Type 0 where
-  pub page : ℕ
-  pub page-below : page < x .state .registers .pages
-  pub page-own : neededAt (writtenIn x) (currentPlace x (lineOf address)) ≡ true → getD (x .memory .table) (currentPlace x (lineOf address)) 0 ≡ page
-  pub page-free : neededAt (writtenIn x) (currentPlace x (lineOf address)) ≡ false → heldAt (writtenIn x) (x .memory .table) (x .memory .owners) page ≡ false
   pub state :
       t .state
-      ≡ usedState (x .state) (hintFor (writtenIn x) (x .state .registers .hint) (x .state .registers .cmf) (lineOf address) (At page))
+      ≡ usedState (x .state) (usedAfter x (lineOf address))
       (placed (x .state .cache) (lineOf address) (x .state .registers .cmf) (contentAfter x width address value))
   pub memory :
       t .memory
-      ≡ memoryOf (x .memory .archive) (withPageLine (x .memory .pool) page (lineOf address % 8) (contentAfter x width address value))
-      (withWritten (writtenIn x) (x .state .registers .tag) (lineOf address) (liveIn (x .state) - 1)) (set (x .memory .table) (currentPlace x (lineOf address)) page)
-      (set (x .memory .owners) page (currentPlace x (lineOf address))) (x .memory .history)
+      ≡ memoryOf (x .memory .archive) (withPageLine (x .memory .pool) (pageTaken x (lineOf address)) (lineOf address % 8) (contentAfter x width address value))
+      (withWritten (writtenIn x) (x .state .registers .tag) (lineOf address) (liveIn (x .state) - 1))
+      (set (x .memory .table) (currentEntry x (lineOf address)) (pageTaken x (lineOf address)))
+      (set (x .memory .owners) (pageTaken x (lineOf address)) (currentPlace x (lineOf address))) (x .memory .history)
 
 -- What is left once a page is found, on any storage: the version is put in the page.
 pub record Put (x : Storage) (width address value live page : ℕ) (cache : Cache) (memory : Memory) : Type 0 where
@@ -135,8 +156,8 @@ pub record Put (x : Storage) (width address value live page : ℕ) (cache : Cach
       memory
       ≡ memoryOf (x .memory .archive) (withPageLine (x .memory .pool) page (lineOf address % 8) content)
       (withWritten (writtenIn x) (x .state .registers .tag % 256) (lineOf address) (live - 1))
-      (set (x .memory .table) (entryPlace (x .state .registers .lines) (frameAt (x .state .registers .frames) (x .state .registers .omf) (live - 1)) (lineOf address)) page)
-      (set (x .memory .owners) page (entryPlace (x .state .registers .lines) (frameAt (x .state .registers .frames) (x .state .registers .omf) (live - 1)) (lineOf address))) (x .memory .history)
+      (set (x .memory .table) (entryAt (x .state .registers .lines) (frameAt (x .state .registers .frames) (x .state .registers .omf) (live - 1)) (lineOf address)) page)
+      (set (x .memory .owners) page (placeAt (frameAt (x .state .registers .frames) (x .state .registers .omf) (live - 1)) (lineOf address / 8))) (x .memory .history)
 
 -- What is asked for that: once WRITE is admitted and has its page.
 pub record AsksWrite (x : Storage) (width address live page : ℕ) : Type 0 where

@@ -1,11 +1,11 @@
 -- The store's storage: the state and the lent memory, what they show of Figures 2 and 3, and when they are well-formed.
-use Prim.Native.Nat.{ℕ, _-_, _%_}
+use Prim.Native.Nat.{ℕ, _-_, _%_, min}
 use mathlib.Core.Path.{_≡_}
 use mathlib.Core.Bool.{true, cond, _&&_}
 use mathlib.Core.Option.{Option, none, some}
 use mathlib.Core.List.{List}
 use lib.Dec.{ltb}
-use lib.ListN.{length, getD, drop}
+use lib.ListN.{length, drop}
 use Rattle.rules.specs.Settings.{Settings, Pieces, enough}
 use Rattle.rules.specs.Line.{Line, IsLine, zeros}
 use Rattle.rules.specs.Call.{Place}
@@ -19,7 +19,8 @@ use Rattle.frames.specs.Circle.{frameAt}
 use Rattle.written.specs.Bits.{Written, writtenOf, effective}
 use Rattle.written.specs.Well.{WellBits}
 use Rattle.pages.specs.Lines.{pageLine, archiveLine}
-use Rattle.pages.specs.Table.{Confirmed, neededAt, placesOf}
+use Rattle.pages.specs.declared.Ring.{Ring}
+use Rattle.pages.specs.Ring.{WellRing}
 use Rattle.cache.specs.declared.Cache.{Cache}
 use Rattle.cache.specs.Entries.{Sized, All}
 use Rattle.cache.specs.Steps.{archiveFrame}
@@ -77,6 +78,14 @@ liveIn s = liveAt (s .registers)
 -- The written bits and the rollback history, with what places them.
 abbrev pub writtenIn : Storage → Written
 writtenIn x = writtenOf (x .state .registers .lines) (x .state .registers .frames) (x .state .registers .omf) (x .memory .groups) (x .memory .history)
+
+-- The ring of pages that the calls see: a start past the pool counts as 0, and more pages than there are count as all.
+unfoldable pub startIn : (first pages : ℕ) → ℕ
+startIn first pages = cond (ltb first pages) first 0
+
+abbrev pub ringAt : Registers → Ring
+ringAt r =
+    record { lines = r .lines; frames = r .frames; omf = r .omf; pages = r .pages; first = startIn (r .first) (r .pages); used = min (r .used) (r .pages) }
 
 -- The lent lengths, in elements.
 abbrev pub lengthsIn : Memory → Pieces
@@ -149,11 +158,10 @@ pub record WellStore (x : Storage) : Type 0 where
   -- every stored bit has a tag that the history knows, and only live frames have effective ones: else a frame could open with lines that
   -- were taken back
   pub bits : WellBits (writtenIn x) (x .state .registers .tag) (liveIn (x .state))
-  -- every needed place has its page, one of the P, and the page knows it: else a line's bytes would lie outside the pool, or two lines
-  -- would share them
+  -- the needed places' pages, and no others, are one segment of the pool's circle, in the order of their frames: else a line's bytes would lie
+  -- outside the pool, two lines would share them, a page would be lost, or a rollback would free the wrong ones
   pub pages :
-      Confirmed (neededAt (writtenIn x)) (placesOf (writtenIn x)) (x .state .registers .pages) (λ y. getD (x .memory .table) y 0)
-      (λ p. getD (x .memory .owners) p 0)
+      WellRing (writtenIn x) (x .state .registers .pages) (x .state .registers .first) (x .state .registers .used) (x .memory .table) (x .memory .owners)
   -- each valid entry of the cache is in its own set, once, and below L: else a write would renew one entry of its line and leave another
   pub entries : WellCache (settingsIn (x .state)) (shown (x .state .cache))
   -- and has its line's most recent bytes and frame: else a read that hits would be wrong, or a rollback would forget the wrong entries

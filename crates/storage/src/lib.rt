@@ -1,5 +1,6 @@
 // The state and the lent memory of a store, and the tests of settings, state and lent lengths that come before every call.
 use cache::Cache;
+use pages::Ring;
 use rules::Need;
 ghost use mathlib.Core.Path.{_≡_};
 ghost use mathlib.Core.Bool.{true};
@@ -7,10 +8,11 @@ ghost use Prim.Native.Nat.{_^_};
 ghost use lib.Dec.{ltb};
 ghost use Rattle.rules.specs.Sizing.{settingsOf};
 ghost use Rattle.rules.specs.Refusal.{unless, isWidth, askedRefusal, lineRefusal, markedRefusal, placeRefusal, writeRefusal};
-ghost use Rattle.storage.specs.Storage.{settingsAt, registersOf, liveAt, memoryOf, lengthsIn};
+ghost use Rattle.storage.specs.Storage.{settingsAt, registersOf, liveAt, memoryOf, lengthsIn, startIn, ringAt};
 ghost use Rattle.storage.specs.Admit.{piecesOf, inElements, covers, admitted};
 
-// The settings L, F and P, the registers CMF and OMF, the tag that a write gives, and where the search for a page starts.
+// The settings L, F and P, the registers CMF and OMF, the tag that a write gives, and of the ring of pages its first one and how many are
+// needed from there on.
 #[repr(C)]
 pub struct Registers {
     pub lines: u32,
@@ -19,7 +21,8 @@ pub struct Registers {
     pub cmf: u32,
     pub omf: u32,
     pub tag: u32,
-    pub hint: u32,
+    pub first: u32,
+    pub used: u32,
 }
 
 // The state may hold anything: each call tests it first. Programs pass it by value; the calls themselves take the registers by value and
@@ -72,6 +75,27 @@ pub fn measure(
         table: table.len(),
         owners: owners.len(),
         history: history.len(),
+    }
+}
+
+// Where the ring starts: a page past the pool counts as 0.
+fn start(first: u32, pages: u32) -> u32
+    ensures { λ r. ⌜ r ≡ startIn first pages ⌝ }
+{
+    if first < pages { first } else { 0 }
+}
+
+// The ring that the calls see; more pages than there are count as all.
+pub fn ring(registers: Registers) -> Ring
+    ensures { λ r. ⌜ r ≡ ringAt registers ⌝ }
+{
+    Ring {
+        lines: registers.lines,
+        frames: registers.frames,
+        omf: registers.omf,
+        pages: registers.pages,
+        first: start(registers.first, registers.pages),
+        used: frames::least(registers.used, registers.pages),
     }
 }
 

@@ -2,6 +2,7 @@
 // done here; the other calls are those of `access` and `marks`, which take the cache's arrays where they lie.
 use cache::Cache;
 pub use marks::Counted;
+use pages::Ring;
 pub use rules::Need;
 pub use rules::sizes;
 pub use storage::Outcome;
@@ -54,7 +55,8 @@ fn fresh(lines: u32, frames: u32, pages: u32) -> State
         cmf: 0,
         omf: 0,
         tag: 0,
-        hint: 0,
+        first: 0,
+        used: 0,
     };
     State {
         registers,
@@ -429,7 +431,15 @@ fn is_well(
     ) {
         return false;
     }
-    if !wellformed::confirmed(groups, history, table, owners, lines, frames, omf, pages) {
+    let ring = Ring {
+        lines,
+        frames,
+        omf,
+        pages,
+        first: state.registers.first,
+        used: state.registers.used,
+    };
+    if !wellformed::ring(groups, history, table, owners, ring) {
         return false;
     }
     if !wellformed::entries(state.cache, lines) {

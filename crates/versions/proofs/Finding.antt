@@ -18,7 +18,8 @@ use Rattle.frames.proofs.Search.{greatest-found}
 use Rattle.written.specs.Bits.{Written, effective, newestFrom}
 use Rattle.written.proofs.Areas.{place-below}
 use Rattle.pages.specs.Lines.{pageLine, archiveLine, AsksPage}
-use Rattle.pages.specs.Table.{AsksTable}
+use Rattle.pages.specs.Table.{blocksOf, placeAt, entryOf, AsksTable}
+use Rattle.pages.proofs.Needs.{place-frame, place-block}
 use Rattle.cache.specs.declared.Entry.{Entry}
 use Rattle.cache.specs.declared.Entry.the-variants.{Hit, Miss}
 use Rattle.cache.specs.Entries.{bytesIn, foundIn}
@@ -27,11 +28,17 @@ use Rattle.versions.specs.declared.Spot.the-variants.{Page, Archive}
 use Rattle.versions.specs.declared.Origin.{Origin}
 use Rattle.versions.specs.declared.Origin.the-variants as origin
 use Rattle.versions.specs.declared.Version.{Version}
-use Rattle.versions.specs.Newest.{entryPlace, pageOf, spotOf, contentOf, numberOf, backIn, newestOf, latestFrom, latestHeld, AsksEntry, AsksSpot, AsksContent, AsksNewest}
+use Rattle.versions.specs.Newest.{entryAt, pageOf, spotOf, contentOf, numberOf, backIn, newestOf, latestFrom, latestHeld, AsksEntry, AsksSpot, AsksContent, AsksNewest}
 
 -- the place of a frame and line lies in the table
-pub entry-within : (lines frames frame line : ℕ) → lines % 8 ≡ 0 → frame < frames → line < lines → entryPlace lines frame line < frames * (lines / 8)
+pub entry-within : (lines frames frame line : ℕ) → lines % 8 ≡ 0 → frame < frames → line < lines → entryAt lines frame line < frames * (lines / 8)
 entry-within lines frames frame line by f l = place-below (lines / 8) frames frame (line / 8) f (omega arith)
+
+-- it is that of its place
+pub place-entry : (w : Written) (frame line : ℕ) → w .lines ≤ 4096 → line < w .lines → entryOf w (placeAt frame (line / 8)) ≡ entryAt (w .lines) frame line
+place-entry w frame line few b =
+    let wide : line / 8 < 512 = omega arith in
+    ap₂ (λ (x y : ℕ). x * blocksOf w + y) (place-frame frame (line / 8) wide) (place-block frame (line / 8) wide)
 
 -- and what is asked to read it
 pub entry-asks : (lines frames frame line long : ℕ) → lines % 8 ≡ 0 → lines ≤ 4096 → frames ≤ 4096 → frame < frames → line < lines → frames * (lines / 8) ≤ long
@@ -45,8 +52,8 @@ entry-asks lines frames frame line long by few some f l room =
     }
 
 -- in the form in which `entry` has it
-pub entry-told : (table : List ℕ) (lines frame line place r : ℕ) → place ≡ entryPlace lines frame line → (r ≡ getD table place 0) × (r < 65536)
-    → (r ≡ getD table (entryPlace lines frame line) 0) × (r < 65536)
+pub entry-told : (table : List ℕ) (lines frame line place r : ℕ) → place ≡ entryAt lines frame line → (r ≡ getD table place 0) × (r < 65536)
+    → (r ≡ getD table (entryAt lines frame line) 0) × (r < 65536)
 entry-told table lines frame line place r e (h, b) = (h ∙ ap (λ (x : ℕ). getD table x 0) e, b)
 
 -- ---- a version that a search found
@@ -85,18 +92,18 @@ no-spot : (pages n p : ℕ) → n ≡ p → pages ≤ n → Archive ≡ cond (lt
 no-spot pages n p e h = sym (ap (λ (b : Bool). cond b (Page p) Archive) (le-ltb p pages (omega arith)))
 
 module _ (lines frames omf pages : ℕ) (table : List ℕ) (line : ℕ) (r : Found) where
-  pub spot-page : (i f n : ℕ) → r ≡ At i → f ≡ frameAt frames omf i → (n ≡ getD table (entryPlace lines f line) 0) × (n < 65536) → n < pages
+  pub spot-page : (i f n : ℕ) → r ≡ At i → f ≡ frameAt frames omf i → (n ≡ getD table (entryAt lines f line) 0) × (n < 65536) → n < pages
       → Page n ≡ spotOf lines frames omf pages table line r
   unfolding spotOf pageOf
   spot-page i f n e h (p, small) b =
-      page-spot pages n (pageOf lines frames omf table i line) (p ∙ ap (λ (x : ℕ). getD table (entryPlace lines x line) 0) h) b
+      page-spot pages n (pageOf lines frames omf table i line) (p ∙ ap (λ (x : ℕ). getD table (entryAt lines x line) 0) h) b
       ∙ ap (spotOf lines frames omf pages table line) (sym e)
 
-  pub spot-none : (i f n : ℕ) → r ≡ At i → f ≡ frameAt frames omf i → (n ≡ getD table (entryPlace lines f line) 0) × (n < 65536) → pages ≤ n
+  pub spot-none : (i f n : ℕ) → r ≡ At i → f ≡ frameAt frames omf i → (n ≡ getD table (entryAt lines f line) 0) × (n < 65536) → pages ≤ n
       → Archive ≡ spotOf lines frames omf pages table line r
   unfolding spotOf pageOf
   spot-none i f n e h (p, small) b =
-      no-spot pages n (pageOf lines frames omf table i line) (p ∙ ap (λ (x : ℕ). getD table (entryPlace lines x line) 0) h) b
+      no-spot pages n (pageOf lines frames omf table i line) (p ∙ ap (λ (x : ℕ). getD table (entryAt lines x line) 0) h) b
       ∙ ap (spotOf lines frames omf pages table line) (sym e)
 
   pub spot-nothing : r ≡ Nothing → Archive ≡ spotOf lines frames omf pages table line r

@@ -1,67 +1,43 @@
 -- The page that a write goes to, and what is asked to put a version there. Assumes nothing.
-use mathlib.Core.Path.{_≡_, refl, sym, _∙_, ap}
-use mathlib.Core.Bool.{Bool, true, false}
+use mathlib.Core.Path.{_≡_, sym, _∙_, ap}
+use mathlib.Core.Bool.{Bool, true, false, cond}
 use mathlib.Core.List.{List}
 use Prim.Native.Nat.{ℕ, _+_, _/_, _≤_, _<_, min}
 use native.Mathlib.Omega.{arith}
-use borrow.Author.Tests.{lt-ltb, le-ltb}
 use lib.ListN.{length, getD}
-use Rattle.rules.specs.Seen.{needs}
-use Rattle.frames.specs.Circle.{indexOf, frameAt}
+use Rattle.frames.specs.Circle.{frameAt}
 use Rattle.frames.specs.declared.Found.{Found}
-use Rattle.frames.specs.declared.Found.the-variants.{At, Nothing}
+use Rattle.frames.specs.declared.Found.the-variants.{At}
 use Rattle.frames.proofs.Circle.{frame-below}
-use Rattle.written.specs.Bits.{Written, effective}
-use Rattle.pages.specs.Table.{heldAt, given}
-use Rattle.pages.proofs.Claiming.{given-free}
-use Rattle.versions.specs.Newest.{entryPlace, AsksEntry}
-use Rattle.versions.specs.Steps.{namedPage, pageFor, hintFor, AsksPageFor, AsksPut}
-use Rattle.versions.proofs.Finding.{entry-within, entry-asks}
+use Rattle.written.specs.Bits.{Written}
+use Rattle.pages.specs.Table.{placeAt}
+use Rattle.pages.specs.Ring.{owns, nextPage}
+use Rattle.versions.specs.Newest.{entryAt}
+use Rattle.versions.specs.Steps.{ownsPage, pageFor, usedFor, AsksPut}
+use Rattle.versions.proofs.Finding.{entry-within}
 
 -- ---- the page of a write
-module _ (lines pages : ℕ) (table : List ℕ) (frame line n : ℕ) (e : (n ≡ getD table (entryPlace lines frame line) 0) × (n < 65536)) where
-  pub page-named : n < pages → At n ≡ namedPage lines pages table frame line
-  unfolding namedPage
-  page-named b = rw (lt-ltb (getD table (entryPlace lines frame line) 0) pages (omega (arith, e .0))) (ap At (e .0))
+module _ (lines pages first used : ℕ) (table owners : List ℕ) (frame line page : ℕ) (e : (page ≡ getD table (entryAt lines frame line) 0) × (page < 65536)) (own : Bool)
+    (told : own ≡ owns pages first used owners page (placeAt frame (line / 8))) where
+  abbrev Chosen : (page : Found) (used : ℕ) → Type 0
+  Chosen p n = (p ≡ pageFor lines pages first used table owners frame line) × (n ≡ usedFor lines pages first used table owners frame line)
 
-  pub page-unnamed : pages ≤ n → Nothing ≡ namedPage lines pages table frame line
-  unfolding namedPage
-  page-unnamed b = rw (le-ltb (getD table (entryPlace lines frame line) 0) pages (omega (arith, e .0))) refl
+  own-is : own ≡ ownsPage lines pages first used table owners frame line
+  own-is = told ∙ ap (λ (p : ℕ). owns pages first used owners p (placeAt frame (line / 8))) (e .0)
 
-pub page-entry : (w : Written) (pages frame line : ℕ) (table owners : List ℕ) → AsksPageFor w pages frame line table owners
-    → AsksEntry (w .lines) frame line (length table)
-page-entry w pages frame line table owners a =
-    entry-asks (w .lines) (w .frames) frame line (length table) (a .asks .lines-by) (a .asks .lent .lines-few) (a .asks .lent .frames-few)
-    (a .frame-below) (a .line-below) (a .asks .table-long)
+  pub page-own : own ≡ true → Chosen (At page) used
+  unfolding pageFor usedFor
+  page-own t = (
+    ap At (e .0) ∙ sym (ap (λ (b : Bool). cond b (At (getD table (entryAt lines frame line) 0)) (nextPage pages first used)) (sym own-is ∙ t)),
+    sym (ap (λ (b : Bool). cond b used (min pages (used + 1))) (sym own-is ∙ t)),
+  )
 
-module _ (w : Written) (pages hint : ℕ) (table owners : List ℕ) (frame line : ℕ) (needed : Bool)
-    (told : needed ≡ needs (effective w (indexOf (w .frames) (w .omf) frame)) (line / 8)) where
-  abbrev Chosen : (page : Found) (hint : ℕ) → Type 0
-  Chosen page next = (page ≡ pageFor w pages hint table owners frame line) × (next ≡ hintFor w hint frame line page)
-
-  pub page-own : (x : Found) → needed ≡ true → x ≡ namedPage (w .lines) pages table frame line → Chosen x hint
-  unfolding pageFor hintFor
-  page-own x t e = (rw (sym told ∙ t) e, same x)
-    where
-      same : (y : Found) → hint ≡ hintFor w hint frame line y
-      same (At p) = rw (sym told ∙ t) refl
-      same Nothing = refl
-
-  module _ (x : Found) (t : needed ≡ false) (e : x ≡ given pages (min hint pages) (heldAt w table owners)) where
-    pub page-given : (y : Found) → x ≡ y → y ≡ pageFor w pages hint table owners frame line
-    unfolding pageFor
-    page-given y d = rw (sym told ∙ t) (sym d ∙ e)
-
-    pub hint-behind : (p : ℕ) → p + 1 ≡ hintFor w hint frame line (At p)
-    unfolding hintFor
-    hint-behind p = rw (sym told ∙ t) refl
-
-    pub hint-stays : hint ≡ hintFor w hint frame line Nothing
-    unfolding hintFor
-    hint-stays = refl
-
-    pub given-few : (p : ℕ) → x ≡ At p → p < pages
-    given-few p d = given-free pages (min hint pages) (heldAt w table owners) (omega arith) p (sym e ∙ d) .0
+  pub page-next : (next : Found) (n : ℕ) → own ≡ false → next ≡ nextPage pages first used → n ≡ min pages (used + 1) → Chosen next n
+  unfolding pageFor usedFor
+  page-next next n t d k = (
+    d ∙ sym (ap (λ (b : Bool). cond b (At (getD table (entryAt lines frame line) 0)) (nextPage pages first used)) (sym own-is ∙ t)),
+    k ∙ sym (ap (λ (b : Bool). cond b used (min pages (used + 1))) (sym own-is ∙ t)),
+  )
 
 -- ---- a version put there
 module _ (w : Written) (pages tag line index page : ℕ) (pool table owners : List ℕ) (asks : AsksPut w pages tag line index page pool table owners)
@@ -73,9 +49,13 @@ module _ (w : Written) (pages tag line index page : ℕ) (pool table owners : Li
   put-few =
       (asks .asks .lent .lines-few, omega (arith, frame-within, asks .asks .lent .frames-few), omega (arith, asks .line-below, asks .asks .lent .lines-few))
 
-  pub put-claims : (place : ℕ) → place ≡ entryPlace (w .lines) f line → (place < length table) × (page < length owners)
-  put-claims place e =
+  pub put-claims : (entry : ℕ) → entry ≡ entryAt (w .lines) f line → (entry < length table) × (page < length owners)
+  put-claims entry e =
       (omega (arith, e, entry-within (w .lines) (w .frames) f line (asks .asks .lines-by) frame-within (asks .line-below), asks .asks .table-long), omega (arith, asks .page-below, asks .owners-long))
 
-pub put-place : (lines frames omf index line f place : ℕ) → f ≡ frameAt frames omf index → place ≡ entryPlace lines f line → place ≡ entryPlace lines (frameAt frames omf index) line
-put-place lines frames omf index line f place e h = h ∙ ap (λ (g : ℕ). entryPlace lines g line) e
+-- in the form in which the code has entry and place
+pub put-entry : (lines frames omf index line f entry : ℕ) → f ≡ frameAt frames omf index → entry ≡ entryAt lines f line → entry ≡ entryAt lines (frameAt frames omf index) line
+put-entry lines frames omf index line f entry e h = h ∙ ap (λ (g : ℕ). entryAt lines g line) e
+
+pub put-place : (frames omf index block f : ℕ) → f ≡ frameAt frames omf index → placeAt f block ≡ placeAt (frameAt frames omf index) block
+put-place frames omf index block f e = ap (λ (g : ℕ). placeAt g block) e

@@ -28,11 +28,11 @@ use Rattle.versions.specs.declared.Version.{Version}
 
 -- "A page holds 8 neighbouring lines of one frame": where the table has the page of a line in a frame, and what it has there for the
 -- frame of an index.
-abbrev pub entryPlace : (lines frame line : ℕ) → ℕ
-entryPlace lines f l = f * (lines / 8) + l / 8
+abbrev pub entryAt : (lines frame line : ℕ) → ℕ
+entryAt lines f l = f * (lines / 8) + l / 8
 
 unfoldable pub pageOf : (lines frames omf : ℕ) → (table : List ℕ) → (index line : ℕ) → ℕ
-pageOf lines frames omf table i l = getD table (entryPlace lines (frameAt frames omf i) l) 0
+pageOf lines frames omf table i l = getD table (entryAt lines (frameAt frames omf i) l) 0
 
 -- Where a version stands that a search found: in the page that the table names, or else in the archive. A number that is no page's,
 -- which no well-formed table names, counts as the archive.
@@ -90,7 +90,7 @@ pub record AsksEntry (lines frame line long : ℕ) : Type 0 where
   pub lines-few : lines ≤ 4096
   pub frame-few : frame ≤ 4096
   pub line-few : line ≤ 4096
-  pub entry-below : entryPlace lines frame line < long
+  pub entry-below : entryAt lines frame line < long
 
 pub record AsksSpot (lines frames omf line : ℕ) (found : Found) (long : ℕ) : Type 0 where
   pub lines-by : lines % 8 ≡ 0

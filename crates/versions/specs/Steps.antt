@@ -1,20 +1,18 @@
 -- What RESET, ADVANCE and WRITE do to archive, pool, table and owners.
 use Prim.Native.Nat.{ℕ, zero, suc, _+_, _-_, _*_, _/_, _%_, _≤_, _<_, min}
-use mathlib.Core.Bool.{cond}
+use mathlib.Core.Bool.{Bool, cond}
 use mathlib.Core.List.{List}
-use lib.Dec.{ltb}
 use lib.ListN.{length, getD}
-use Rattle.rules.specs.Seen.{needs}
-use Rattle.frames.specs.Circle.{indexOf}
 use Rattle.frames.specs.Lists.{rewrite}
 use Rattle.frames.specs.declared.Found.{Found}
-use Rattle.frames.specs.declared.Found.the-variants.{At, Nothing}
-use Rattle.written.specs.Bits.{Written, effective, newestFrom}
+use Rattle.frames.specs.declared.Found.the-variants.{At}
+use Rattle.written.specs.Bits.{Written, newestFrom}
 use Rattle.pages.specs.Lines.{pageLine, withArchiveLine}
-use Rattle.pages.specs.Table.{AsksTable, heldAt, given}
+use Rattle.pages.specs.Table.{placeAt, AsksTable}
+use Rattle.pages.specs.Ring.{owns, nextPage, AsksRing}
 use Rattle.versions.specs.declared.Spot.{Spot}
 use Rattle.versions.specs.declared.Spot.the-variants.{Page, Archive}
-use Rattle.versions.specs.Newest.{entryPlace, spotOf}
+use Rattle.versions.specs.Newest.{entryAt, spotOf, AsksEntry}
 
 -- RESET: "archive all zero".
 unfoldable pub zeroed : (lines : ℕ) → List ℕ → List ℕ
@@ -40,28 +38,23 @@ foldedFrom w pages k pool table l (suc n) archive =
     foldedLine (foldedFrom w pages k pool table l n archive) pool (l + n)
     (spotOf (w .lines) (w .frames) (w .omf) pages table (l + n) (newestFrom w (l + n) (k - 1)))
 
--- The page that a write to a line in a frame goes to: the one that the table names where the line's block is needed in the frame
--- already, and else one that is given out. Nothing: no page is free.
-unfoldable pub namedPage : (lines pages : ℕ) → (table : List ℕ) → (frame line : ℕ) → Found
-namedPage lines pages table f l = cond (ltb (getD table (entryPlace lines f l) 0) pages) (At (getD table (entryPlace lines f l) 0)) Nothing
+-- The page that a write to a line in a frame goes to: the one that the table names where it is the place's own, and else the next of the
+-- ring. Nothing: none is left.
+module _ (lines pages first used : ℕ) (table owners : List ℕ) (f l : ℕ) where
+  abbrev pub ownsPage : Bool
+  ownsPage = owns pages first used owners (getD table (entryAt lines f l) 0) (placeAt f (l / 8))
 
-unfoldable pub pageFor : Written → (pages hint : ℕ) → (table owners : List ℕ) → (frame line : ℕ) → Found
-pageFor w pages hint table owners f l =
-    cond (needs (effective w (indexOf (w .frames) (w .omf) f)) (l / 8))
-    (namedPage (w .lines) pages table f l)
-    (given pages (min hint pages) (heldAt w table owners))
+  unfoldable pub pageFor : Found
+  pageFor = cond ownsPage (At (getD table (entryAt lines f l) 0)) (nextPage pages first used)
 
--- Where the next search for a page starts: behind the page where that was given out, and else where it did.
-unfoldable pub hintFor : Written → (hint frame line : ℕ) → Found → ℕ
-hintFor w hint f l (At p) = cond (needs (effective w (indexOf (w .frames) (w .omf) f)) (l / 8)) hint (p + 1)
-hintFor w hint f l Nothing = hint
+  -- How many pages are in use then.
+  unfoldable pub usedFor : ℕ
+  usedFor = cond ownsPage used (min pages (used + 1))
 
 -- What is asked to give a write its page,
-pub record AsksPageFor (w : Written) (pages frame line : ℕ) (table owners : List ℕ) : Type 0 where
-  pub asks : AsksTable w table
-  pub line-below : line < w .lines
-  pub frame-below : frame < w .frames
-  pub owners-long : pages ≤ length owners
+pub record AsksPageFor (lines frames omf pages first used frame line table owners : ℕ) : Type 0 where
+  pub ring : AsksRing pages first used frames omf owners
+  pub entry : AsksEntry lines frame line table
 
 -- and to put a line there, in the frame of an index: the line is copied to its slot, the page is the place's, and the written bit is set.
 pub record AsksPut (w : Written) (pages tag line index page : ℕ) (pool table owners : List ℕ) : Type 0 where

@@ -3,16 +3,18 @@
 // own crates call them.
 use cache::Entry;
 use frames::Found;
+use pages::Ring;
 ghost use mathlib.Core.Path.{_≡_};
-ghost use Prim.Native.Nat.{_+_, _*_, _%_, _≤_, _<_};
+ghost use Prim.Native.Nat.{_+_, _*_, _/_, _%_, _≤_, _<_};
 ghost use lib.ListN;
 ghost use lib.ListN.{length, getD};
 ghost use Rattle.frames.specs.Circle.{frameAt};
 ghost use Rattle.written.specs.Bits.{writtenOf};
 ghost use Rattle.written.specs.Steps.{withWritten};
 ghost use Rattle.pages.specs.Lines.{withPageLine};
-ghost use Rattle.versions.specs.Newest.{entryPlace, spotOf, contentOf, newestOf, latestHeld, AsksEntry, AsksSpot, AsksContent, AsksNewest};
-ghost use Rattle.versions.specs.Steps.{zeroed, foldedLine, folded, foldedFrom, namedPage, pageFor, hintFor, AsksPageFor, AsksPut, AsksFold};
+ghost use Rattle.pages.specs.Table.{placeAt};
+ghost use Rattle.versions.specs.Newest.{entryAt, spotOf, contentOf, newestOf, latestHeld, AsksEntry, AsksSpot, AsksContent, AsksNewest};
+ghost use Rattle.versions.specs.Steps.{zeroed, foldedLine, folded, foldedFrom, pageFor, usedFor, AsksPageFor, AsksPut, AsksFold};
 
 // Where a version stands: in a page of the pool, in the slot of its line, or in the archive.
 pub enum Spot {
@@ -34,27 +36,27 @@ pub struct Version {
     pub origin: Origin,
 }
 
-// The page that a write goes to, if there is one, and where the next search for a page starts.
+// The page that a write goes to, if there is one, and how many pages are in use then.
 pub struct Choice {
     pub page: Found,
-    pub hint: u32,
+    pub used: u32,
 }
 
 // Where the table has the page of a line in a frame.
-fn place_of(lines: u32, frame: u32, line: u32) -> u32
+fn entry_at(lines: u32, frame: u32, line: u32) -> u32
     requires { ⌜ (lines ≤ 4096) × (frame ≤ 4096) × (line ≤ 4096) ⌝ }
-    ensures { λ r. ⌜ r ≡ entryPlace lines frame line ⌝ }
+    ensures { λ r. ⌜ r ≡ entryAt lines frame line ⌝ }
 {
     frame * (lines / 8) + line / 8
 }
 
-// What the table has there.
-fn entry(table: &[u16], lines: u32, frame: u32, line: u32) -> u32
+// The page that the table names there.
+fn named(table: &[u16], lines: u32, frame: u32, line: u32) -> u32
     requires { ⌜ AsksEntry lines frame line (length (now table)) ⌝ }
-    ensures { λ r. ⌜ (r ≡ getD (now (table .entry)) (entryPlace lines frame line) 0) × (r < 65536) ⌝ }
+    ensures { λ r. ⌜ (r ≡ getD (now (table .entry)) (entryAt lines frame line) 0) × (r < 65536) ⌝ }
 {
-    let place = place_of(lines, frame, line) as usize;
-    frames::wide(table[place])
+    let at = entry_at(lines, frame, line) as usize;
+    frames::wide(table[at])
 }
 
 // Where a version that a search found stands.
@@ -72,7 +74,7 @@ pub fn locate(
 {
     match found {
         Found::At(i) => {
-            let page = entry(table, lines, frames::frame_at(i, omf, frames), line);
+            let page = named(table, lines, frames::frame_at(i, omf, frames), line);
             if page < pages {
                 return Spot::Page(page);
             }
@@ -312,59 +314,22 @@ pub fn fold(
     }
 }
 
-// The page that the table names for a line in a frame, if it is one of the P.
-fn named(table: &[u16], lines: u32, pages: u32, frame: u32, line: u32) -> Found
-    requires { ⌜ AsksEntry lines frame line (length (now table)) ⌝ }
-    ensures { λ r. ⌜ r ≡ namedPage lines pages (now (table .entry)) frame line ⌝ }
+// The page that a write to a line in a frame goes to: the place's own, and else the next of the ring.
+pub fn page_for(table: &[u16], owners: &[u32], ring: Ring, frame: u32, line: u32) -> Choice
+    requires { ⌜ AsksPageFor (ring .lines) (ring .frames) (ring .omf) (ring .pages) (ring .first) (ring .used) frame line (length (now table)) (length (now owners)) ⌝ }
+    ensures { λ r. ⌜ (r .page ≡ pageFor (ring .lines) (ring .pages) (ring .first) (ring .used) (now (table .entry)) (now (owners .entry)) frame line)
+        × (r .used ≡ usedFor (ring .lines) (ring .pages) (ring .first) (ring .used) (now (table .entry)) (now (owners .entry)) frame line) ⌝ }
 {
-    let page = entry(table, lines, frame, line);
-    if page < pages {
-        return Found::At(page);
+    let page = named(table, ring.lines, frame, line);
+    if pages::segment::is_own(owners, ring, page, frame * 512 + line / 8) {
+        return Choice {
+            page: Found::At(page),
+            used: ring.used,
+        };
     }
-    Found::Nothing
-}
-
-// The page that a write to a line in a frame goes to: the block's own where it is needed there already, else one that is not held.
-pub fn page_for(
-    groups: &[u32],
-    history: &[u16],
-    table: &[u16],
-    owners: &[u32],
-    lines: u32,
-    frames: u32,
-    omf: u32,
-    pages: u32,
-    hint: u32,
-    frame: u32,
-    line: u32,
-) -> Choice
-    requires { ⌜ AsksPageFor (writtenOf lines frames omf (now groups) (now history)) pages frame line (now table) (now owners) ⌝ }
-    ensures { λ r. ⌜ (r .page ≡ pageFor (writtenOf lines frames omf (now (groups .entry)) (now (history .entry))) pages hint (now (table .entry)) (now (owners .entry)) frame line)
-        × (r .hint ≡ hintFor (writtenOf lines frames omf (now (groups .entry)) (now (history .entry))) hint frame line (r .page)) ⌝ }
-{
-    if written::needed_for(groups, history, lines, frames, omf, frame, line) {
-        let page = named(table, lines, pages, frame, line);
-        return Choice { page, hint };
-    }
-    match pages::table::give(
-        groups,
-        history,
-        table,
-        owners,
-        lines,
-        frames,
-        omf,
-        pages,
-        hint,
-    ) {
-        Found::At(p) => Choice {
-            page: Found::At(p),
-            hint: p + 1,
-        },
-        Found::Nothing => Choice {
-            page: Found::Nothing,
-            hint,
-        },
+    Choice {
+        page: pages::segment::next_page(ring),
+        used: frames::least(ring.pages, ring.used + 1),
     }
 }
 
@@ -389,11 +354,13 @@ pub fn put(
     requires { ⌜ AsksPut (writtenOf lines frames omf (now groups) (now history)) pages tag line index page (now pool) (now table) (now owners) ⌝ }
     ensures bytes { λ _. ⌜ now (pool .exit) ≡ withPageLine (now (pool .entry)) page (line % 8) content ⌝ }
     ensures bit { λ _. ⌜ now (groups .exit) ≡ withWritten (writtenOf lines frames omf (now (groups .entry)) (now (history .entry))) tag line index ⌝ }
-    ensures table { λ _. ⌜ now (table .exit) ≡ ListN.set (now (table .entry)) (entryPlace lines (frameAt frames omf index) line) page ⌝ }
-    ensures owner { λ _. ⌜ now (owners .exit) ≡ ListN.set (now (owners .entry)) page (entryPlace lines (frameAt frames omf index) line) ⌝ }
+    ensures table { λ _. ⌜ now (table .exit) ≡ ListN.set (now (table .entry)) (entryAt lines (frameAt frames omf index) line) page ⌝ }
+    ensures owner { λ _. ⌜ now (owners .exit) ≡ ListN.set (now (owners .entry)) page (placeAt (frameAt frames omf index) (line / 8)) ⌝ }
 {
     pages::lines::write_page_line(pool, page, line % 8, content);
-    let place = place_of(lines, frames::frame_at(index, omf, frames), line);
-    pages::table::claim(table, owners, place, page as u16);
+    let frame = frames::frame_at(index, omf, frames);
+    let entry = entry_at(lines, frame, line);
+    let place = frame * 512 + line / 8;
+    pages::segment::claim(table, owners, entry, place, page as u16);
     written::set(groups, history, lines, frames, omf, tag, line, index);
 }

@@ -1,5 +1,5 @@
 pub mod Deciding
 pub mod Groups
-pub mod Places
+pub mod Rings
 pub mod Recent
 pub mod Sets

@@ -1,14 +1,32 @@
 -- The clauses of well-formedness that a function decides by itself, and what is asked of the numbers and the lent lengths.
 use Prim.Native.Nat.{ℕ, _+_, _*_, _%_, _≤_, _<_}
 use mathlib.Core.Path.{_≡_}
+use mathlib.Core.Bool.{true}
 use mathlib.Core.List.{List}
 use lib.ListN.{length, getD}
 use Rattle.rules.specs.Line.{Line}
 use Rattle.cache.specs.declared.Cache.{Cache}
 use Rattle.cache.specs.Entries.{lineOf}
-use Rattle.pages.specs.Table.{AsksTable}
+use Rattle.pages.specs.Table.{placesOf, entryOf, neededAt, AsksTable}
+use Rattle.pages.specs.Ring.{pageAt, indexAt, Backed, Paged}
 use Rattle.versions.specs.Newest.{newestOf}
 use Rattle.written.specs.Bits.{Written, Lent}
+
+-- A page whose owner is a needed place for which the table has the page. (Shut, so that the lists stand bare in it.)
+unfoldable pub BackedIn : Written → (table owners : List ℕ) → ℕ → Type 0
+BackedIn w table owners p = Backed (neededAt w) (placesOf w) (λ x. getD table (entryOf w x) 0) (λ q. getD owners q 0) p
+
+-- The ring as CHECK tests it: position by position,
+pub record InOrder (w : Written) (pages first used : ℕ) (table owners : List ℕ) : Type 0 where
+  pub backed : (i : ℕ) → i < used → BackedIn w table owners (pageAt pages first i)
+  pub steps : (i : ℕ) → i + 1 < used → indexAt (w .frames) (w .omf) pages first owners i ≤ indexAt (w .frames) (w .omf) pages first owners (i + 1)
+
+-- and place by place.
+unfoldable pub PagedIn : Written → (pages first used : ℕ) → (table owners : List ℕ) → ℕ → Type 0
+PagedIn w pages first used table owners x = neededAt w x ≡ true → Paged pages first used (λ y. getD table (entryOf w y) 0) (λ q. getD owners q 0) x
+
+abbrev pub AllPaged : Written → (pages first used : ℕ) → (table owners : List ℕ) → Type 0
+AllPaged w pages first used table owners = (x : ℕ) → x < placesOf w → PagedIn w pages first used table owners x
 
 -- A set of the cache whose valid entries are in it and below L, and not both with one line.
 pub record SetWell (lines : ℕ) (c : Cache) (set : ℕ) : Type 0 where

@@ -2,20 +2,22 @@
 // numbers and lengths is tested by the store, and only our own crates call them.
 use cache::Cache;
 use frames::Found;
+use pages::Ring;
 ghost use mathlib.Core.Path.{_≡_};
 ghost use mathlib.Core.Bool.{true};
-ghost use Prim.Native.Nat.{_%_, _≤_, _<_};
-ghost use lib.ListN.{length, getD};
+ghost use Prim.Native.Nat.{_/_, _%_, _≤_, _<_};
+ghost use lib.ListN.{length};
 ghost use Rattle.rules.specs.Sizing.{settingsOf};
 ghost use Rattle.rules.specs.Figure3.{WellCache};
 ghost use Rattle.written.specs.Bits.{writtenOf};
 ghost use Rattle.written.specs.Steps.{Ordered};
 ghost use Rattle.written.specs.Well.{TagsKnown, OnlyLive, WellBits};
-ghost use Rattle.pages.specs.Table.{AsksTable, Confirmed, neededAt, placesOf};
+ghost use Rattle.pages.specs.Table.{placeAt, entriesOf, AsksTable};
+ghost use Rattle.pages.specs.Ring.{AsksRing, WellRing};
 ghost use Rattle.cache.specs.Entries.{Sized, All};
 ghost use Rattle.cache.specs.Shown.{shown};
 ghost use Rattle.wellformed.specs.Decision.{Decides};
-ghost use Rattle.wellformed.specs.Parts.{SetWell, RecentIn, Bytes, AsksBits, AsksRecent};
+ghost use Rattle.wellformed.specs.Parts.{BackedIn, InOrder, PagedIn, AllPaged, SetWell, RecentIn, Bytes, AsksBits, AsksRecent};
 
 // Whether every group with a bit set has a tag up to the current one.
 fn tags_known(groups: &[u32], count: u32, tag: u32) -> bool
@@ -98,76 +100,127 @@ pub fn bits(
     only_live(groups, history, lines, frames, omf, live)
 }
 
-// Whether the place, if it is needed, has its page, and the page knows it.
-fn is_confirmed(
+// Whether a page's owner is a needed place for which the table has the page.
+fn is_backed(
     groups: &[u32],
     history: &[u16],
     table: &[u16],
     owners: &[u32],
-    lines: u32,
-    frames: u32,
-    omf: u32,
-    pages: u32,
-    place: u32,
+    ring: Ring,
+    page: u32,
 ) -> bool
-    requires { ⌜ (AsksTable (writtenOf lines frames omf (now groups) (now history)) (now table)) × (pages ≤ length (now owners)) × (place < placesOf (writtenOf lines frames omf (now groups) (now history))) ⌝ }
-    ensures { λ r. ⌜ Decides r (neededAt (writtenOf lines frames omf (now (groups .entry)) (now (history .entry))) place ≡ true → (getD (now (table .entry)) place 0 < pages) × (getD (now (owners .entry)) (getD (now (table .entry)) place 0) 0 ≡ place)) ⌝ }
+    requires { ⌜ (AsksTable (writtenOf (ring .lines) (ring .frames) (ring .omf) (now groups) (now history)) (now table)) × (page < length (now owners)) ⌝ }
+    ensures { λ r. ⌜ Decides r (BackedIn (writtenOf (ring .lines) (ring .frames) (ring .omf) (now (groups .entry)) (now (history .entry))) (now (table .entry)) (now (owners .entry)) page) ⌝ }
 {
-    let blocks = lines / 8;
-    if !written::needed(
+    let blocks = ring.lines / 8;
+    let owner = owners[page as usize];
+    let frame = owner / 512;
+    let block = owner % 512;
+    if ring.frames <= frame {
+        return false;
+    }
+    if blocks <= block {
+        return false;
+    }
+    let at = frame * blocks + block;
+    if frames::wide(table[at as usize]) != page {
+        return false;
+    }
+    written::needed(
         groups,
         history,
-        lines,
-        frames,
-        omf,
-        place / blocks,
-        place % blocks,
-    ) {
-        return true;
-    }
-    let page = frames::wide(table[place as usize]);
-    if pages <= page {
-        return false;
-    }
-    if owners[page as usize] != place {
-        return false;
+        ring.lines,
+        ring.frames,
+        ring.omf,
+        frame,
+        block,
+    )
+}
+
+// Whether every page of the segment is backed, and the owners' indexes never fall along it.
+fn in_order(groups: &[u32], history: &[u16], table: &[u16], owners: &[u32], ring: Ring) -> bool
+    requires { ⌜ (AsksTable (writtenOf (ring .lines) (ring .frames) (ring .omf) (now groups) (now history)) (now table)) × (AsksRing (ring .pages) (ring .first) (ring .used) (ring .frames) (ring .omf) (length (now owners))) ⌝ }
+    ensures { λ r. ⌜ Decides r (InOrder (writtenOf (ring .lines) (ring .frames) (ring .omf) (now (groups .entry)) (now (history .entry))) (ring .pages) (ring .first) (ring .used) (now (table .entry)) (now (owners .entry))) ⌝ }
+{
+    let used = ring.used;
+    let mut i = 0;
+    let mut last = 0;
+    while i < used {
+        let page = frames::frame_at(i, ring.first, ring.pages);
+        if !is_backed(groups, history, table, owners, ring, page) {
+            return false;
+        }
+        let index = pages::segment::owner_index(ring, owners[page as usize]);
+        if index < last {
+            return false;
+        }
+        last = index;
+        i = i + 1;
     }
     true
 }
 
-// Whether every needed place is confirmed.
-pub fn confirmed(
+// Whether the place of an entry of the table, if it is needed, has a page of the segment, and owns it.
+fn is_paged(
     groups: &[u32],
     history: &[u16],
     table: &[u16],
     owners: &[u32],
-    lines: u32,
-    frames: u32,
-    omf: u32,
-    pages: u32,
+    ring: Ring,
+    entry: u32,
 ) -> bool
-    requires { ⌜ (AsksTable (writtenOf lines frames omf (now groups) (now history)) (now table)) × (pages ≤ length (now owners)) ⌝ }
-    ensures { λ r. ⌜ Decides r (Confirmed (neededAt (writtenOf lines frames omf (now (groups .entry)) (now (history .entry)))) (placesOf (writtenOf lines frames omf (now (groups .entry)) (now (history .entry)))) pages (λ y. getD (now (table .entry)) y 0) (λ p. getD (now (owners .entry)) p 0)) ⌝ }
+    requires { ⌜ (AsksTable (writtenOf (ring .lines) (ring .frames) (ring .omf) (now groups) (now history)) (now table)) × (AsksRing (ring .pages) (ring .first) (ring .used) (ring .frames) (ring .omf) (length (now owners))) × (entry < entriesOf (writtenOf (ring .lines) (ring .frames) (ring .omf) (now groups) (now history))) ⌝ }
+    ensures { λ r. ⌜ Decides r (PagedIn (writtenOf (ring .lines) (ring .frames) (ring .omf) (now (groups .entry)) (now (history .entry))) (ring .pages) (ring .first) (ring .used) (now (table .entry)) (now (owners .entry)) (placeAt (entry / (ring .lines / 8)) (entry % (ring .lines / 8)))) ⌝ }
 {
-    let places = frames * (lines / 8);
-    let mut place = 0;
-    while place < places {
-        if !is_confirmed(
-            groups,
-            history,
-            table,
-            owners,
-            lines,
-            frames,
-            omf,
-            pages,
-            place,
-        ) {
+    let blocks = ring.lines / 8;
+    let frame = entry / blocks;
+    let block = entry % blocks;
+    if !written::needed(
+        groups,
+        history,
+        ring.lines,
+        ring.frames,
+        ring.omf,
+        frame,
+        block,
+    ) {
+        return true;
+    }
+    let page = frames::wide(table[entry as usize]);
+    pages::segment::is_own(owners, ring, page, frame * 512 + block)
+}
+
+// Whether every needed place has its page.
+fn all_paged(groups: &[u32], history: &[u16], table: &[u16], owners: &[u32], ring: Ring) -> bool
+    requires { ⌜ (AsksTable (writtenOf (ring .lines) (ring .frames) (ring .omf) (now groups) (now history)) (now table)) × (AsksRing (ring .pages) (ring .first) (ring .used) (ring .frames) (ring .omf) (length (now owners))) ⌝ }
+    ensures { λ r. ⌜ Decides r (AllPaged (writtenOf (ring .lines) (ring .frames) (ring .omf) (now (groups .entry)) (now (history .entry))) (ring .pages) (ring .first) (ring .used) (now (table .entry)) (now (owners .entry))) ⌝ }
+{
+    let entries = ring.frames * (ring.lines / 8);
+    let mut entry = 0;
+    while entry < entries {
+        if !is_paged(groups, history, table, owners, ring, entry) {
             return false;
         }
-        place = place + 1;
+        entry = entry + 1;
     }
     true
+}
+
+// Whether the needed pages are one segment of the pool's circle, in the order of their frames.
+pub fn ring(groups: &[u32], history: &[u16], table: &[u16], owners: &[u32], ring: Ring) -> bool
+    requires { ⌜ (AsksTable (writtenOf (ring .lines) (ring .frames) (ring .omf) (now groups) (now history)) (now table)) × (ring .pages ≤ 4096) × (ring .pages ≤ length (now owners)) ⌝ }
+    ensures { λ r. ⌜ Decides r (WellRing (writtenOf (ring .lines) (ring .frames) (ring .omf) (now (groups .entry)) (now (history .entry))) (ring .pages) (ring .first) (ring .used) (now (table .entry)) (now (owners .entry))) ⌝ }
+{
+    if ring.pages <= ring.first {
+        return false;
+    }
+    if ring.pages < ring.used {
+        return false;
+    }
+    if !in_order(groups, history, table, owners, ring) {
+        return false;
+    }
+    all_paged(groups, history, table, owners, ring)
 }
 
 // Whether an entry, if it is valid, holds a line of its set and below L.

@@ -29,7 +29,7 @@ module _ (n omf k : ℕ) (h : omf < n) where
   unfolding frameAt
   frame-on j = mod-add-mod (omf + k) n j ∙ ap (λ (x : ℕ). x % n) (add-assoc omf k j)
 
-  frame-kept : (j : ℕ) → frameAt n (frameAt n omf k) j ≡ frameAt n omf (k + j)
+  pub frame-kept : (j : ℕ) → frameAt n (frameAt n omf k) j ≡ frameAt n omf (k + j)
   unfolding frameAt
   frame-kept = frame-on
 

@@ -228,30 +228,6 @@ pub fn needed(
     block_has(groups, history, lines, frames, omf, block, index, index + 1)
 }
 
-// The same for the block of a line, which is looked at before the others: a line that is written again is found at once.
-pub fn needed_for(
-    groups: &[u32],
-    history: &[u16],
-    lines: u32,
-    frames: u32,
-    omf: u32,
-    frame: u32,
-    line: u32,
-) -> bool
-    requires { ⌜ (AsksBlock (writtenOf lines frames omf (now groups) (now history)) (line / 8) frames) × (frame < frames) ⌝ }
-    ensures { λ r. ⌜ r ≡ needs (effective (writtenOf lines frames omf (now (groups .entry)) (now (history .entry))) (indexOf frames omf frame)) (line / 8) ⌝ }
-{
-    if set_in(groups, lines, frame, line / 8) == 0 {
-        return false;
-    }
-    let index = frames::index(frame, omf, frames);
-    let end = index + 1;
-    if run_has(groups, history, lines, frames, omf, line, index, end) {
-        return true;
-    }
-    block_has(groups, history, lines, frames, omf, line / 8, index, end)
-}
-
 // The bits of so many neighbouring groups added up, in one go.
 fn many_bits(groups: &[u32], at: usize, count: usize) -> u32
     requires { ⌜ (at + count ≤ length (now groups)) × (count ≤ 4096) ⌝ }

@@ -1,10 +1,10 @@
-//! Each call by itself, on a store prepared for it: timed for `--growth`, counted by callgrind for `--calls`.
-use crate::peer::Peer;
+//! Each call by itself, on a store prepared for it: timed for `--growth`, counted by callgrind for `--calls` and `--full`.
+use crate::peer::{Paged, Peer};
 use crate::workload::Settings;
 use std::hint::black_box;
 use std::time::Instant;
 
-/// A store of 128 lines or more in which every live frame has one written line; those of the upper half are never written to stay.
+/// A store of 128 lines or more in which live frames have written lines; those of the upper half are never written to stay.
 struct Prepared<P> {
     peer: P,
     settings: Settings,
@@ -72,6 +72,25 @@ fn call_advance<P: Peer>(peer: &mut P, k: u32) {
     peer.advance(k);
 }
 
+#[inline(never)]
+fn call_counts<P: Paged>(peer: &P, n: u32) {
+    for _ in 0..n {
+        black_box(black_box(peer).counts());
+    }
+}
+
+#[inline(never)]
+fn call_refused_write<P: Peer>(peer: &mut P, n: u32, line: u32) {
+    for i in 0..n {
+        peer.refused_write(4, black_box(16 * line), i);
+    }
+}
+
+#[inline(never)]
+fn call_write_again<P: Peer>(peer: &mut P, line: u32) {
+    peer.write(4, 16 * line, 0);
+}
+
 fn timed(n: u32, run: impl FnOnce()) -> Took {
     let start = Instant::now();
     run();
@@ -79,17 +98,43 @@ fn timed(n: u32, run: impl FnOnce()) -> Took {
 }
 
 impl<P: Peer> Prepared<P> {
-    fn new(settings: Settings, live: u32) -> Self {
-        let mut this = Prepared {
+    fn empty(settings: Settings) -> Self {
+        Prepared {
             peer: P::new(settings),
             settings,
             live: 1,
             rollbacks: 0,
             turn: 0,
-        };
+        }
+    }
+
+    /// Every live frame has one written line.
+    fn new(settings: Settings, live: u32) -> Self {
+        let mut this = Self::empty(settings);
         this.write_turn();
         this.grow(live - 1);
         this
+    }
+
+    /// All pages are needed: one, in the upper half, by the newest frame, the others by the older frames alike.
+    fn full(settings: Settings, live: u32) -> Self {
+        let mut this = Self::empty(settings);
+        let (pages, older) = (settings.pages - 1, live - 1);
+        for frame in 0..older {
+            let count = pages * (frame + 1) / older - pages * frame / older;
+            for block in 0..count {
+                this.peer.write(4, 128 * block, frame);
+            }
+            this.peer.mark();
+        }
+        this.live = live;
+        this.peer.write(4, 16 * this.upper(), 0);
+        this
+    }
+
+    /// The first line of the upper half.
+    fn upper(&self) -> u32 {
+        self.settings.lines / 2
     }
 
     fn write_turn(&mut self) {
@@ -133,7 +178,7 @@ impl<P: Peer> Prepared<P> {
 
     /// Lines of one set in turn, none in the cache when its turn comes, none written in any live frame: the longest search.
     fn read_miss(&mut self, n: u32) -> Took {
-        let line = self.settings.lines / 2 + 8;
+        let line = self.upper() + 8;
         timed(n, || call_read_miss(&mut self.peer, n, line))
     }
 
@@ -193,6 +238,28 @@ impl<P: Peer> Prepared<P> {
     }
 }
 
+impl<P: Paged> Prepared<P> {
+    fn counts(&self, n: u32) -> Took {
+        let all = (self.live, self.settings.pages);
+        assert_eq!(self.peer.counts(), all);
+        timed(n, || call_counts(&self.peer, n))
+    }
+
+    /// The newest frame has no page of this line.
+    fn refused_write(&mut self, n: u32) -> Took {
+        let line = self.upper() + 8;
+        timed(n, || call_refused_write(&mut self.peer, n, line))
+    }
+
+    /// The newest frame is dropped and opened again, and its only page written anew.
+    fn write_again(&mut self) -> Took {
+        self.taken_back(1);
+        self.peer.mark();
+        let line = self.upper();
+        timed(1, || call_write_again(&mut self.peer, line))
+    }
+}
+
 /// Every case with its name, on one store of these settings with so many live frames, fewer than all; `sink` gets what each turn of it took.
 pub fn all<P: Peer>(
     settings: Settings,
@@ -214,5 +281,24 @@ pub fn all<P: Peer>(
     }
     for _ in 0..turns {
         sink("sweep", store.sweep());
+    }
+}
+
+/// The cases of a full pool, as `all` has its own. A turn has as many rollbacks as one of `all`, for what a rollback costs can depend on the tags
+/// in use.
+pub fn full<P: Paged>(
+    settings: Settings,
+    live: u32,
+    turns: u32,
+    mut sink: impl FnMut(&'static str, Took),
+) {
+    let mut store = Prepared::<P>::full(settings, live);
+    for _ in 0..turns {
+        sink("counts", store.counts(300));
+        sink("refused_write", store.refused_write(300));
+        for _ in 0..3 {
+            sink("write_again", store.write_again());
+        }
+        sink("rollback", store.rollback());
     }
 }

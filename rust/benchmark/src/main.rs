@@ -5,7 +5,7 @@
 //! the peer's, and a line for each bar. Bars are aims of speed: one that is missed does not change the status.
 //!
 //! `--growth`: how the cost of each call grows with L, F, P and the live frames, as a table with tabs.
-//! `--replay` and `--calls PEER`: what `rust/account` has callgrind count.
+//! `--replay LIST`, `--calls PEER` and `--full PEER PAGES`: what `rust/account` has callgrind count.
 #![deny(unsafe_code)]
 
 mod cases;
@@ -21,9 +21,12 @@ mod sqlite;
 mod table;
 mod workload;
 
+use chip::Chip;
+use peer::{Paged, Peer};
+use std::collections::BTreeMap;
 use std::process::ExitCode;
 use vcm::Store;
-use workload::Settings;
+use workload::{Settings, Workload};
 
 /// What `fine` and the counted cases run on.
 const FINE: Settings = Settings {
@@ -32,51 +35,67 @@ const FINE: Settings = Settings {
     pages: 512,
 };
 
-/// A short `fine` on ours, for callgrind to count from `replay` on.
-fn replay_fine(calls: usize) {
-    let list = workload::report("fine", FINE, 20, calls);
+/// What `tight` runs on.
+const TIGHT: Settings = Settings {
+    frames: 256,
+    pages: 4096,
+    ..FINE
+};
+
+/// Live frames and turns of the counted cases.
+const LIVE: u32 = 32;
+const TURNS: u32 = 12;
+
+/// A short list on ours, for callgrind to count from `replay` on.
+fn replay_list(list: &Workload) {
     let (warm, rest) = list.ops.split_at(list.warm);
-    let mut store = peer::warmed::<Store>(FINE, warm);
+    let mut store = peer::warmed::<Store>(list.settings, warm);
     peer::replay(&mut store, rest);
     println!("calls {}", rest.len());
 }
 
-/// Every case once, for callgrind, and how many calls each has made.
-fn counted<P: peer::Peer>() {
-    let mut counts = std::collections::BTreeMap::new();
-    cases::all::<P>(FINE, 32, 12, |name, (_, n)| {
-        *counts.entry(name).or_insert(0) += n;
-    });
+/// Runs cases, for callgrind, and prints how many calls each has made.
+fn counted(run: impl FnOnce(&mut dyn FnMut(&'static str, cases::Took))) {
+    let mut counts = BTreeMap::new();
+    run(&mut |name, (_, n)| *counts.entry(name).or_insert(0) += n);
     for (name, n) in counts {
         println!("{name} {n}");
     }
+}
+
+/// The cases of `--calls`.
+fn calls<P: Peer>() {
+    counted(|sink| cases::all::<P>(FINE, LIVE, TURNS, sink));
+}
+
+/// The cases of `--full`, with so many pages.
+fn full<P: Paged>(pages: &str) {
+    let pages = pages.parse().expect("a number of pages");
+    let settings = Settings { pages, ..FINE };
+    counted(|sink| cases::full::<P>(settings, LIVE, TURNS, sink));
 }
 
 fn main() -> ExitCode {
     let words: Vec<String> = std::env::args().skip(1).collect();
     let words: Vec<&str> = words.iter().map(String::as_str).collect();
     match words[..] {
-        [] => match table::run() {
-            Ok(()) => return ExitCode::SUCCESS,
-            Err(words) => eprintln!("bench: {words}"),
-        },
-        ["--growth"] => {
-            growth::run();
-            return ExitCode::SUCCESS;
+        [] => {
+            if let Err(words) = table::run() {
+                eprintln!("bench: {words}");
+                return ExitCode::FAILURE;
+            }
         }
-        ["--replay"] => {
-            replay_fine(20_000);
-            return ExitCode::SUCCESS;
+        ["--growth"] => growth::run(),
+        ["--replay", "fine"] => replay_list(&workload::report("fine", FINE, 20, 20_000)),
+        ["--replay", "tight"] => replay_list(&workload::tight(TIGHT, 20_000)),
+        ["--calls", "ours"] => calls::<Store>(),
+        ["--calls", "chip-rust"] => calls::<Chip>(),
+        ["--full", "ours", pages] => full::<Store>(pages),
+        ["--full", "chip-rust", pages] => full::<Chip>(pages),
+        _ => {
+            eprintln!("usage: bench [--growth | --replay fine|tight | --calls ours|chip-rust | --full ours|chip-rust PAGES]");
+            return ExitCode::FAILURE;
         }
-        ["--calls", "ours"] => {
-            counted::<Store>();
-            return ExitCode::SUCCESS;
-        }
-        ["--calls", "chip-rust"] => {
-            counted::<chip::Chip>();
-            return ExitCode::SUCCESS;
-        }
-        _ => eprintln!("usage: bench [--growth | --replay | --calls ours | --calls chip-rust]"),
     }
-    ExitCode::FAILURE
+    ExitCode::SUCCESS
 }

@@ -3,6 +3,7 @@ use crate::workload::{Op, Settings};
 use std::hint::black_box;
 use std::time::Instant;
 pub use vcm::Origin;
+use vcm::Refusal;
 
 /// A read's answer. Only ours and `chip-rust` tell the origin.
 #[derive(Clone, Copy, Debug, PartialEq, Eq)]
@@ -11,8 +12,8 @@ pub struct Seen {
     pub origin: Option<Origin>,
 }
 
-/// A store that can be marked and taken back. A replay is compiled for each of them: nobody pays for dynamic calls. Lists never hold a call
-/// that our store refuses, so a peer may end the program where it refuses one.
+/// A store that can be marked and taken back. A replay is compiled for each of them: nobody pays for dynamic calls. But for writes that get
+/// 13, lists never hold a call that our store refuses, so a peer may end the program where it refuses one.
 pub trait Peer {
     const NAME: &'static str;
     fn new(settings: Settings) -> Self;
@@ -21,6 +22,11 @@ pub trait Peer {
     fn mark(&mut self);
     fn rollback(&mut self, k: u32);
     fn advance(&mut self, k: u32);
+
+    /// A write that gets 13. A peer without pages is given lists without it.
+    fn refused_write(&mut self, _width: u32, _address: u32, _value: u32) {
+        unreachable!("{} has no pages", Self::NAME);
+    }
 
     #[inline(always)]
     fn step(&mut self, op: Op) -> Option<Seen> {
@@ -31,12 +37,23 @@ pub trait Peer {
                 address,
                 value,
             } => self.write(u32::from(width), address, value),
+            Op::Refused {
+                width,
+                address,
+                value,
+            } => self.refused_write(u32::from(width), address, value),
             Op::Mark => self.mark(),
             Op::Rollback(k) => self.rollback(k),
             Op::Advance(k) => self.advance(k),
         }
         None
     }
+}
+
+/// A store with a pool of pages, which it counts and of which it can run out: ours and `chip-rust`.
+pub trait Paged: Peer {
+    /// COUNTS: the live frames and the pages needed.
+    fn counts(&self) -> (u32, u32);
 }
 
 impl Peer for vcm::Store {
@@ -73,6 +90,20 @@ impl Peer for vcm::Store {
     #[inline]
     fn advance(&mut self, k: u32) {
         vcm::Store::advance(self, k).expect("accepted");
+    }
+
+    #[inline]
+    fn refused_write(&mut self, width: u32, address: u32, value: u32) {
+        let answer = vcm::Store::write(self, width, address, value);
+        assert_eq!(answer, Err(Refusal::Pages));
+    }
+}
+
+impl Paged for vcm::Store {
+    #[inline]
+    fn counts(&self) -> (u32, u32) {
+        let counts = vcm::Store::counts(self).expect("accepted");
+        (counts.live, counts.pages)
     }
 }
 

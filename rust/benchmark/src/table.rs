@@ -2,9 +2,9 @@
 use crate::chip::Chip;
 use crate::latency::{self, Slowest};
 use crate::peer::{answers, compare, timed, Peer, Seen};
-use crate::plain::{Idle, UndoLog, WholeCopy};
+use crate::plain::{Idle, LineJournal, UndoLog, WholeCopy};
 use crate::workload::{self, Settings, Workload};
-use crate::FINE;
+use crate::{FINE, TIGHT};
 use std::hint::black_box;
 use std::time::Instant;
 use vcm::{Refusal, Store};
@@ -14,25 +14,52 @@ const REPEATS: usize = 15;
 #[cfg(sqlite)]
 const FEW: usize = 10_000;
 
-/// Ratios by workload and peer, as they were measured.
+/// A workload on ours and on a peer.
+struct Line {
+    workload: String,
+    peer: &'static str,
+    ours: f64,
+    theirs: f64,
+}
+
+impl Line {
+    fn ratio(&self) -> f64 {
+        self.ours / self.theirs
+    }
+}
+
+/// The lines as they were measured.
 #[derive(Default)]
-struct Table(Vec<(String, &'static str, f64)>);
+struct Table(Vec<Line>);
 
 impl Table {
     fn line(&mut self, workload: &str, peer: &'static str, ours: f64, theirs: f64) {
-        let ratio = ours / theirs;
+        let line = Line {
+            workload: workload.to_string(),
+            peer,
+            ours,
+            theirs,
+        };
+        let ratio = line.ratio();
         println!("bench {workload} {peer} {ours:.1} {theirs:.1} {ratio:.4}");
-        self.0.push((workload.to_string(), peer, ratio));
+        self.0.push(line);
+    }
+
+    fn of<'a>(&'a self, peer: &'a str) -> impl Iterator<Item = &'a Line> {
+        self.0.iter().filter(move |line| line.peer == peer)
     }
 
     /// The greatest ratio of a peer over the workloads asked for, if it was measured.
     fn worst(&self, peer: &str, is_asked: impl Fn(&str) -> bool) -> Option<f64> {
-        let asked = |line: &&(String, &str, f64)| line.1 == peer && is_asked(&line.0);
-        self.0
-            .iter()
-            .filter(asked)
-            .map(|line| line.2)
-            .reduce(f64::max)
+        let asked = self.of(peer).filter(|line| is_asked(&line.workload));
+        asked.map(Line::ratio).reduce(f64::max)
+    }
+
+    /// Our time for a call of a workload, where it was played beside `chip-rust`.
+    fn ours(&self, workload: &str) -> Option<f64> {
+        let mut lines = self.of(Chip::NAME);
+        let line = lines.find(|line| line.workload == workload)?;
+        Some(line.ours)
     }
 }
 
@@ -83,14 +110,18 @@ fn workloads() -> Vec<Workload> {
         workload::deep(deep, 100_000),
         workload::regenerate(fine(512), 200_000),
         workload::full(full, 100_000),
+        workload::tight(TIGHT, 100_000),
     ]
 }
 
+/// Compares every peer's answers with ours. Those without pages are not given the writes that get 13, which therefore must have changed nothing.
 fn compare_all(list: &Workload) -> Result<(), String> {
     let told = |error| format!("{}: {error}", list.name);
     let ours = answers::<Store>(list.settings, &list.ops);
     compare::<Chip>(list.settings, &list.ops, &ours).map_err(told)?;
+    let list = &list.accepted();
     compare::<UndoLog>(list.settings, &list.ops, &ours).map_err(told)?;
+    compare::<LineJournal>(list.settings, &list.ops, &ours).map_err(told)?;
     compare::<WholeCopy>(list.settings, &list.ops, &ours).map_err(told)?;
     compare_sqlite(list, &ours).map_err(told)
 }
@@ -152,14 +183,17 @@ fn latencies(table: &mut Table, fine: &Workload, long: &Workload) {
     let ours = latency::slowest::<Store>(fine, replays);
     slow_lines::<Chip>(table, fine, ours);
     slow_lines::<UndoLog>(table, fine, ours);
+    slow_lines::<LineJournal>(table, fine, ours);
     slow_lines::<WholeCopy>(table, fine, ours);
     let slowest = latency::slowest::<Store>(long, replays).rollback;
     let slowest = slowest.max(ours.rollback);
     let theirs = latency::slowest::<UndoLog>(long, replays).rollback;
     table.line(LONG, UndoLog::NAME, slowest, theirs);
+    let theirs = latency::slowest::<LineJournal>(long, replays).rollback;
+    table.line(LONG, LineJournal::NAME, slowest, theirs);
 }
 
-/// Our slowest rollback without sweep of all, beside the log's slowest after 10,000 writes.
+/// Our slowest rollback without sweep of all, beside the journals' slowest after 10,000 writes.
 const LONG: &str = "latency/rollback-of-10000-writes";
 
 /// What a read of ours takes that is refused for its width: the border, and the tests of state, lent lengths and width.
@@ -179,11 +213,14 @@ fn refused() -> f64 {
 }
 
 fn bars(table: &Table) {
+    let told = |name: &str, ratio: f64, most: f64| {
+        let verdict = if ratio <= most { "ok" } else { "MISSED" };
+        println!("bar {name} at most {most}: {ratio:.4} {verdict}");
+    };
     let bar = |peer: &str, workload: &str, most: f64| {
         let is_asked = |name: &str| name == workload || workload == "all";
         if let Some(ratio) = table.worst(peer, is_asked) {
-            let verdict = if ratio <= most { "ok" } else { "MISSED" };
-            println!("bar {workload}/{peer} at most {most}: {ratio:.4} {verdict}");
+            told(&format!("{workload}/{peer}"), ratio, most);
         }
     };
     bar("chip-rust", "fine", 4.0);
@@ -192,6 +229,9 @@ fn bars(table: &Table) {
     bar("whole-copy", "fine", 0.25);
     bar("sqlite", "all", 0.02);
     bar("undo-log", LONG, 0.1);
+    if let (Some(tight), Some(fine)) = (table.ours("tight"), table.ours("fine")) {
+        told("tight over fine, both on ours,", tight / fine, 3.0);
+    }
     println!("# aims, for later: undo-log at most 4 and then 2, chip-rust at most 1.5; rust/account tells where our time goes");
 }
 
@@ -213,6 +253,9 @@ pub fn run() -> Result<(), String> {
     println!(
         "# every value read is the same on ours and on each peer, and on chip-rust every origin; on sqlite, those of the calls timed beside it"
     );
+    println!(
+        "# beside a peer that has no pages ours too plays the list without the writes that get 13"
+    );
     head_sqlite();
     println!("# bench: nanoseconds for each call of the list, medians of {REPEATS} replays in turns, taken for every thousand calls; ratio: ours over the peer's");
     println!(
@@ -230,7 +273,9 @@ pub fn run() -> Result<(), String> {
     let mut table = Table::default();
     for list in &lists {
         beside::<Chip>(&mut table, list);
+        let list = &list.accepted();
         beside::<UndoLog>(&mut table, list);
+        beside::<LineJournal>(&mut table, list);
         beside::<WholeCopy>(&mut table, list);
         beside_sqlite(&mut table, list);
     }

@@ -9,10 +9,12 @@ pub struct Settings {
     pub pages: u32,
 }
 
+/// A call. A refused one is a write that gets 13.
 #[derive(Clone, Copy, Debug)]
 pub enum Op {
     Read { width: u8, address: u32 },
     Write { width: u8, address: u32, value: u32 },
+    Refused { width: u8, address: u32, value: u32 },
     Mark,
     Rollback(u32),
     Advance(u32),
@@ -36,6 +38,24 @@ impl Workload {
         &self.ops[..self.ops.len().min(self.warm + timed)]
     }
 
+    /// The list without the writes that get 13, for peers that have no pages.
+    pub fn accepted(&self) -> Workload {
+        let is_accepted = |op: &Op| !matches!(op, Op::Refused { .. });
+        let mut next = 0;
+        let place = |op: &Op| {
+            let here = next;
+            next += usize::from(is_accepted(op));
+            here
+        };
+        let places: Vec<usize> = self.ops.iter().map(place).collect();
+        Workload {
+            ops: self.ops.iter().copied().filter(is_accepted).collect(),
+            warm: places[self.warm],
+            firsts: self.firsts.iter().map(|first| places[*first]).collect(),
+            ..*self
+        }
+    }
+
     /// What the heading tells of the list.
     pub fn heading(&self) -> String {
         let count = |test: fn(&Op) -> bool| self.ops.iter().filter(|op| test(op)).count();
@@ -45,13 +65,14 @@ impl Workload {
             pages,
         } = self.settings;
         format!(
-            "# {}: L {lines}, F {frames}, P {pages} ({} needed at most); {} calls of which {} untimed: {} reads, {} writes, {} marks, {} rollbacks, {} advances",
+            "# {}: L {lines}, F {frames}, P {pages} ({} needed at most); {} calls of which {} untimed: {} reads, {} writes, {} writes that get 13, {} marks, {} rollbacks, {} advances",
             self.name,
             self.needed,
             self.ops.len(),
             self.warm,
             count(|op| matches!(op, Op::Read { .. })),
             count(|op| matches!(op, Op::Write { .. })),
+            count(|op| matches!(op, Op::Refused { .. })),
             count(|op| matches!(op, Op::Mark)),
             count(|op| matches!(op, Op::Rollback(_))),
             count(|op| matches!(op, Op::Advance(_))),
@@ -59,7 +80,7 @@ impl Workload {
     }
 }
 
-/// A list in the making, which knows the live frames and the pages needed, so that no call in it is refused.
+/// A list in the making, which knows the live frames and the pages needed, and so which calls are refused.
 struct Maker {
     settings: Settings,
     random: Random,
@@ -108,8 +129,7 @@ impl Maker {
 
     /// A write of one line: mostly a word, now and then a part of one.
     fn write(&mut self, line: u32) {
-        let value = self.random.word();
-        let (width, address) = self.place(line);
+        let (width, address, value) = self.piece(line);
         let blocks = self.live.back_mut().expect("a frame");
         if !blocks.contains(&(line / 8)) {
             blocks.push(line / 8);
@@ -121,8 +141,33 @@ impl Maker {
         self.ops.push(Op::Write {
             width,
             address,
-            value: value >> (32 - 8 * u32::from(width)),
+            value,
         });
+    }
+
+    /// A write that finds all pages needed, and its own not among them.
+    fn refused_write(&mut self, line: u32) {
+        let blocks = self.live.back().expect("a frame");
+        let is_full = self.needed == self.settings.pages as usize;
+        assert!(is_full && !blocks.contains(&(line / 8)), "a page left");
+        let (width, address, value) = self.piece(line);
+        self.ops.push(Op::Refused {
+            width,
+            address,
+            value,
+        });
+    }
+
+    fn read(&mut self, line: u32) {
+        let (width, address) = self.place(line);
+        self.ops.push(Op::Read { width, address });
+    }
+
+    /// What a write of one line writes.
+    fn piece(&mut self, line: u32) -> (u8, u32, u32) {
+        let value = self.random.word();
+        let (width, address) = self.place(line);
+        (width, address, value >> (32 - 8 * u32::from(width)))
     }
 
     fn place(&mut self, line: u32) -> (u8, u32) {
@@ -138,9 +183,19 @@ impl Maker {
             if self.random.below(5) == 0 {
                 self.write(line);
             } else {
-                let (width, address) = self.place(line);
-                self.ops.push(Op::Read { width, address });
+                self.read(line);
             }
+        }
+    }
+
+    /// Writes until so many pages are needed, in frames of 20 each.
+    fn fill(&mut self, pages: usize) {
+        while self.needed < pages {
+            if self.live.back().expect("a frame").len() == 20 {
+                self.mark();
+            }
+            let line = self.line();
+            self.write(line);
         }
     }
 
@@ -298,4 +353,29 @@ pub fn full(settings: Settings, calls: usize) -> Workload {
         }
     }
     maker.done("full", warm)
+}
+
+/// A pool with one page left: a mark, a write that takes it, writes of two other blocks, which get 13, and the rollback of them; every eighth
+/// round reads two of the lines then. The needed pages lie across the pool's end.
+pub fn tight(settings: Settings, calls: usize) -> Workload {
+    let mut maker = Maker::new(settings, f64::from(settings.lines), 13);
+    let pages = settings.pages as usize - 1;
+    maker.fill(pages);
+    maker.advance(maker.live() / 2);
+    maker.fill(pages);
+    let warm = maker.ops.len();
+    while maker.ops.len() < warm + calls {
+        let line = maker.line();
+        let away = |part| (line + part * settings.lines / 4) % settings.lines;
+        maker.mark();
+        maker.write(line);
+        maker.refused_write(away(1));
+        maker.refused_write(away(2));
+        maker.rollback(1);
+        if maker.marks.is_multiple_of(8) {
+            maker.read(line);
+            maker.read(away(1));
+        }
+    }
+    maker.done("tight", warm)
 }

@@ -1,6 +1,7 @@
 -- `access::write` meets its contract. Assumes nothing.
 use mathlib.Core.Path.{sym, _∙_}
-use Rattle.storage.proofs.Admitting.{room-turn, room-page}
+use Rattle.storage.proofs.Admitting.{room-turn}
+use Rattle.storage.proofs.Seeing.{seen-page-asks, seen-page, seen-used}
 use Rattle.storage.proofs.Chains.{measured, write-room}
 use Rattle.storage.proofs.Storing.{write-refused, asks-write, write-full, write-done, write-left}
 use borrow.Author.Needs.{needs}
@@ -32,10 +33,17 @@ returns c = (write-refused _ _ _ _ _ (measured _ _ _ _ _ (c .before .before .mea
 live-requires : tie.Need-live-requires
 live-requires c κs = room-turn _ _ (write-room _ _ _ _ _ _ (measured _ _ _ _ _ (c .before .before .measure .ensures) (c .before .admit-write .ensures)) (c .if1 .left) .0 .room)
 
+ring-requires : tie.Need-ring-requires
+ring-requires c κs = search needs
+
 page-for-requires : tie.Need-page-for-requires
 page-for-requires c κs =
-    let g = write-room _ _ _ _ _ _ (measured _ _ _ _ _ (c .before .before .before .before .before .before .measure .ensures) (c .before .before .before .before .before .admit-write .ensures)) (c .before .before .before .before .if1 .left) .0 in
-    room-page _ _ _ _ _ _ _ (g .room) _ (g .line-below)
+    let at-ring : tie.After-ring = search in
+    let at-if1 : tie.Else1 = search in
+    let at-admit-write : tie.After-admit-write = search in
+    let at-measure : tie.After-measure = search in
+    let g = write-room _ _ _ _ _ _ (measured _ _ _ _ _ (at-measure .measure .ensures) (at-admit-write .admit-write .ensures)) (at-if1 .if1 .left) .0 in
+    seen-page-asks _ _ (g .room) _ _ _ (at-ring .ring .ensures) _ (g .line-below)
 
 enum-known-found : tie.Need-enum-known-found
 enum-known-found c = search needs
@@ -44,11 +52,13 @@ put-value-requires : tie.Need-put-value-requires
 put-value-requires c κs =
     let at-found : tie.After-found = search in
     let at-page-for : tie.After-page-for = search in
+    let at-ring : tie.After-ring = search in
     let at-live : tie.After-live = search in
     let at-if1 : tie.Else1 = search in
     let at-admit-write : tie.After-admit-write = search in
     let at-measure : tie.After-measure = search in
-    asks-write _ _ _ _ _ (measured _ _ _ _ _ (at-measure .measure .ensures) (at-admit-write .admit-write .ensures)) (at-if1 .if1 .left) _ _ (at-live .live .ensures) (sym (at-page-for .page-for .ensures .0) ∙ at-found .found .given .1)
+    asks-write _ _ _ _ _ (measured _ _ _ _ _ (at-measure .measure .ensures) (at-admit-write .admit-write .ensures)) (at-if1 .if1 .left) _ _ (at-live .live .ensures)
+    (sym (seen-page _ _ _ _ _ _ _ (at-ring .ring .ensures) _ _ _ _ _ (at-page-for .page-for .ensures .0)) ∙ at-found .found .given .1)
 
 enum-told : tie.Need-enum-told
 enum-told c = search needs
@@ -70,12 +80,13 @@ returns-2 c =
     let at-put-value : tie.After-put-value = search in
     let at-found : tie.After-found = search in
     let at-page-for : tie.After-page-for = search in
+    let at-ring : tie.After-ring = search in
     let at-live : tie.After-live = search in
     let at-if1 : tie.Else1 = search in
     let at-admit-write : tie.After-admit-write = search in
     let at-measure : tie.After-measure = search in (
-      write-done _ _ _ _ _ (measured _ _ _ _ _ (at-measure .measure .ensures) (at-admit-write .admit-write .ensures)) (at-if1 .if1 .left) _ (at-page-for .page-for .ensures .0) _ (at-found .found .given .1) _ (at-live .live .ensures) _ _ (at-put-value .put-value .ensures) _ (at-page-for .page-for .ensures .1),
-      λ z. write-left _ _ _ _ _ (measured _ _ _ _ _ (at-measure .measure .ensures) (at-admit-write .admit-write .ensures)) (at-if1 .if1 .left) _ (at-page-for .page-for .ensures .0) _ (at-found .found .given .1) _ (at-live .live .ensures) _ _ (at-put-value .put-value .ensures) _ (at-page-for .page-for .ensures .1),
+      write-done _ _ _ _ _ (measured _ _ _ _ _ (at-measure .measure .ensures) (at-admit-write .admit-write .ensures)) (at-if1 .if1 .left) _ (seen-page _ _ _ _ _ _ _ (at-ring .ring .ensures) _ _ _ _ _ (at-page-for .page-for .ensures .0)) _ (at-found .found .given .1) _ (at-live .live .ensures) _ _ (at-put-value .put-value .ensures) _ (seen-used _ _ _ _ _ _ _ (at-ring .ring .ensures) _ _ _ _ _ (at-page-for .page-for .ensures .1)),
+      λ z. write-left _ _ _ _ _ (measured _ _ _ _ _ (at-measure .measure .ensures) (at-admit-write .admit-write .ensures)) (at-if1 .if1 .left) _ (seen-page _ _ _ _ _ _ _ (at-ring .ring .ensures) _ _ _ _ _ (at-page-for .page-for .ensures .0)) _ (at-found .found .given .1) _ (at-live .live .ensures) _ _ (at-put-value .put-value .ensures) _ (seen-used _ _ _ _ _ _ _ (at-ring .ring .ensures) _ _ _ _ _ (at-page-for .page-for .ensures .1)),
     )
 
 same-length-9 : tie.Need-same-length-9
@@ -92,10 +103,11 @@ same-length-12 c = search needs
 
 returns-3 : tie.Need-returns-3
 returns-3 c =
+    let at-ring : tie.After-ring = search in
     let at-if1 : tie.Else1 = search in
     let at-admit-write : tie.After-admit-write = search in
     let at-measure : tie.After-measure = search in
-    (write-full _ _ _ _ _ (measured _ _ _ _ _ (at-measure .measure .ensures) (at-admit-write .admit-write .ensures)) (at-if1 .if1 .left) (sym (c .before .before .page-for .ensures .0) ∙ c .enum-told .given .1), λ z. absurd (omega arith))
+    (write-full _ _ _ _ _ (measured _ _ _ _ _ (at-measure .measure .ensures) (at-admit-write .admit-write .ensures)) (at-if1 .if1 .left) (sym (seen-page _ _ _ _ _ _ _ (at-ring .ring .ensures) _ _ _ _ _ (c .before .before .page-for .ensures .0)) ∙ c .enum-told .given .1), λ z. absurd (omega arith))
 
 pub write-spec : {M : Type 1} → statement M
 write-spec =
@@ -109,6 +121,7 @@ write-spec =
     same-length-4
     returns
     live-requires
+    ring-requires
     page-for-requires
     enum-known-found
     put-value-requires

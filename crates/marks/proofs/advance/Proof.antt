@@ -1,6 +1,7 @@
 -- `marks::advance` meets its contract. Assumes nothing.
 use mathlib.Core.Path.{refl}
 use Rattle.storage.proofs.Admitting.{room-circle, room-lent}
+use Rattle.storage.proofs.Seeing.{seen-asks, seen-below, seen-advanced}
 use Rattle.storage.proofs.Chains.{measured, frames-room}
 use Rattle.storage.proofs.Collecting.{fold-asks, advance-refused, advance-collects}
 use borrow.Author.Needs.{needs}
@@ -26,8 +27,25 @@ same-length-3 c = search needs
 returns : tie.Need-returns
 returns c = λ held valid bytes last. (advance-refused _ _ _ (measured _ _ _ _ _ (c .before .before .measure .ensures) (c .before .admit-frames .ensures)) (c .if1 .taken), λ z. absurd (c .if1 .taken z))
 
+ring-requires : tie.Need-ring-requires
+ring-requires c κs = search needs
+
+pages-below-requires : tie.Need-pages-below-requires
+pages-below-requires c κs =
+    let at-ring : tie.After-ring = search in
+    let at-if1 : tie.Else1 = search in
+    let at-admit-frames : tie.After-admit-frames = search in
+    let at-measure : tie.After-measure = search in
+    let g = frames-room _ _ _ _ (measured _ _ _ _ _ (at-measure .measure .ensures) (at-admit-frames .admit-frames .ensures)) (at-if1 .if1 .left) in
+    seen-asks _ _ (g .room) _ _ _ (at-ring .ring .ensures)
+
 fold-requires : tie.Need-fold-requires
-fold-requires c κs = fold-asks _ _ _ _ _ _ _ _ (frames-room _ _ _ _ (measured _ _ _ _ _ (c .before .before .before .before .before .measure .ensures) (c .before .before .before .before .admit-frames .ensures)) (c .before .before .before .if1 .left))
+fold-requires c κs =
+    let at-if1 : tie.Else1 = search in
+    let at-admit-frames : tie.After-admit-frames = search in
+    let at-measure : tie.After-measure = search in
+    let g = frames-room _ _ _ _ (measured _ _ _ _ _ (at-measure .measure .ensures) (at-admit-frames .admit-frames .ensures)) (at-if1 .if1 .left) in
+    fold-asks _ _ _ _ _ _ _ _ g
 
 cast-advance : tie.Need-cast-advance
 cast-advance c =
@@ -69,6 +87,20 @@ rem-omf c =
     let g = frames-room _ _ _ _ (measured _ _ _ _ _ (at-measure .measure .ensures) (at-admit-frames .admit-frames .ensures)) (at-if1 .if1 .left) in
     omega (arith, g .room .fits .omf-below)
 
+page-at-requires : tie.Need-page-at-requires
+page-at-requires c κs =
+    let at-below : tie.After-pages-below = search in
+    let at-ring : tie.After-ring = search in
+    let at-if1 : tie.Else1 = search in
+    let at-admit-frames : tie.After-admit-frames = search in
+    let at-measure : tie.After-measure = search in
+    let g = frames-room _ _ _ _ (measured _ _ _ _ _ (at-measure .measure .ensures) (at-admit-frames .admit-frames .ensures)) (at-if1 .if1 .left) in
+    let s = seen-asks _ _ (g .room) _ _ _ (at-ring .ring .ensures) in
+    (s .first-below, omega (arith, s .used-few, at-below .pages-below .ensures .few), s .pages-few)
+
+sub-registers : tie.Need-sub-registers
+sub-registers c = let at-below : tie.After-pages-below = search in omega (arith, at-below .pages-below .ensures .few)
+
 same-length-4 : tie.Need-same-length-4
 same-length-4 c = search needs
 
@@ -80,13 +112,17 @@ same-length-6 c = search needs
 
 returns-2 : tie.Need-returns-2
 returns-2 c =
+    let at-page : tie.After-page-at = search in
+    let at-collect : tie.After-collect = search in
     let at-advance : tie.After-advance = search in
     let at-fold : tie.After-fold = search in
+    let at-below : tie.After-pages-below = search in
+    let at-ring : tie.After-ring = search in
     let at-if1 : tie.Else1 = search in
     let at-admit-frames : tie.After-admit-frames = search in
     let at-measure : tie.After-measure = search in
     λ held valid bytes last.
-    let p = advance-collects _ _ _ (measured _ _ _ _ _ (at-measure .measure .ensures) (at-admit-frames .admit-frames .ensures)) (at-if1 .if1 .left) _ _ _ (at-fold .fold .ensures) (at-advance .advance .ensures .0) (at-advance .advance .ensures .1) _ _ refl (c .before .before .collect .ensures) in
+    let p = advance-collects _ _ _ (measured _ _ _ _ _ (at-measure .measure .ensures) (at-admit-frames .admit-frames .ensures)) _ (seen-below _ _ _ _ _ _ _ (at-ring .ring .ensures) _ _ _ (at-below .pages-below .ensures)) (at-if1 .if1 .left) _ _ _ (at-fold .fold .ensures) (at-advance .advance .ensures .0) (at-advance .advance .ensures .1) _ _ (seen-advanced _ _ _ _ _ _ _ (at-ring .ring .ensures) _ _ _ _ _ (at-page .page-at .ensures)) (at-collect .collect .ensures) in
     (p .0, λ z. p .1)
 
 pub advance-spec : {M : Type 1} → statement M
@@ -99,12 +135,16 @@ advance-spec =
     same-length-2
     same-length-3
     returns
+    ring-requires
+    pages-below-requires
     fold-requires
     cast-advance
     advance-requires
     collect-requires
     add-omf
     rem-omf
+    page-at-requires
+    sub-registers
     same-length-4
     same-length-5
     same-length-6

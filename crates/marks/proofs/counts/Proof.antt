@@ -1,5 +1,8 @@
 -- `marks::counts` meets its contract. Assumes nothing.
-use Rattle.storage.proofs.Admitting.{admitted-room, room-turn, room-pages}
+use mathlib.Core.Path.{ap}
+use Prim.Native.Nat.{ℕ}
+use Rattle.pages.specs.declared.Ring.{Ring}
+use Rattle.storage.proofs.Admitting.{admitted-room, room-turn}
 use Rattle.storage.proofs.Chains.{measured}
 use Rattle.storage.proofs.Counting.{counts-refused, counts-told}
 use borrow.Author.Needs.{needs}
@@ -18,14 +21,13 @@ returns c = λ cache. counts-refused _ _ (measured _ _ _ _ _ (c .before .before 
 live-requires : tie.Need-live-requires
 live-requires c κs = room-turn _ _ (admitted-room _ _ _ _ (c .before .admit .ensures) (c .if1 .left))
 
-count-held-requires : tie.Need-count-held-requires
-count-held-requires c κs =
-    room-pages _ _ _ _ _ _ _ (admitted-room _ _ _ _ (measured _ _ _ _ _ (c .before .before .before .measure .ensures) (c .before .before .admit .ensures)) (c .before .if1 .left))
+ring-requires : tie.Need-ring-requires
+ring-requires c κs = search needs
 
 returns-2 : tie.Need-returns-2
-returns-2 c = λ cache. counts-told _ _ (measured _ _ _ _ _ (c .before .before .before .before .measure .ensures) (c .before .before .before .admit .ensures)) (c .before .before .if1 .left) _ _ (c .before .live .ensures) (c .count-held .ensures)
+returns-2 c = λ cache. counts-told _ _ (measured _ _ _ _ _ (c .before .before .before .before .measure .ensures) (c .before .before .before .admit .ensures)) (c .before .before .if1 .left) _ _ (c .before .live .ensures) (ap (λ (r : Ring). r .used) (c .ring .ensures))
 
 pub counts-spec : {M : Type 1} → statement M
 counts-spec =
     tie.close
-    (tie.spec measure-requires admit-requires returns live-requires count-held-requires returns-2)
+    (tie.spec measure-requires admit-requires returns live-requires ring-requires returns-2)

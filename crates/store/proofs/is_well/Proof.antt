@@ -17,13 +17,13 @@ bits-requires c κs = room-bits _ _ _ _ _ _ _ _ (admitted-room _ _ _ _ (sym (c .
 returns : tie.Need-returns
 returns c = part-fails _ (bits-part _ _ (c .before .before .live .ensures)) (c .before .bits .ensures) (c .if1 .taken)
 
-confirmed-requires : tie.Need-confirmed-requires
-confirmed-requires c κs =
+ring-requires : tie.Need-ring-requires
+ring-requires c κs =
     let at-start : tie.Start = search in
     room-pages _ _ _ _ _ _ _ (admitted-room _ _ _ _ (sym (at-start .pre)) refl)
 
 returns-2 : tie.Need-returns-2
-returns-2 c = part-fails _ (λ q. q .pages) (c .before .confirmed .ensures) (c .if2 .taken)
+returns-2 c = part-fails _ (λ q. q .pages) (c .before .ring .ensures) (c .if2 .taken)
 
 entries-requires : tie.Need-entries-requires
 entries-requires c κs = search needs
@@ -69,7 +69,7 @@ is-well-spec =
     live-requires
     bits-requires
     returns
-    confirmed-requires
+    ring-requires
     returns-2
     entries-requires
     returns-3

@@ -1,19 +1,16 @@
 //! The same algorithm as the proved store in safe Rust, with `&mut self` and nothing proved: written bits in groups of 16 with tags, a rollback
-//! history with bounds relative to OMF, a page table with owners and a hint, a cache of 16 sets of two ways, an archive. Its answers and its
+//! history with bounds relative to OMF, a ring of pages with a table and owners, a cache of 16 sets of two ways, an archive. Its answers and its
 //! refusals from 7 to 13 are the same; 5 and 6 cannot come.
 mod cache;
 mod written;
 
-use crate::peer::{Origin, Peer, Seen};
+use crate::peer::{Origin, Paged, Peer, Seen};
 use crate::workload::Settings;
 use cache::{Cache, ARCHIVE};
 use vcm::Refusal;
 use written::Written;
 
 type Line = [u8; 16];
-
-/// Lines that ADVANCE passes over together.
-const SPAN: usize = 64;
 
 /// A value of 1, 2 or 4 bytes, most significant byte first.
 #[inline]
@@ -42,11 +39,14 @@ pub struct Chip {
     /// live frames
     live: u32,
     cmf: u32,
-    /// where the search for a free page starts
-    hint: u32,
+    /// the oldest needed page
+    first: u32,
+    /// how many pages are needed: those from the first on, round the pool, in the order of their frames
+    used: u32,
     archive: Vec<Line>,
     pool: Vec<[Line; 8]>,
     table: Vec<u16>,
+    /// for each page its frame * 512 + block
     owners: Vec<u32>,
     written: Written,
     cache: Cache,
@@ -67,7 +67,8 @@ impl Chip {
             blocks,
             live: 1,
             cmf: 0,
-            hint: 0,
+            first: 0,
+            used: 0,
             archive: vec![[0; 16]; lines as usize],
             pool: vec![[[0; 16]; 8]; pages as usize],
             table: vec![0; (blocks * frames) as usize],
@@ -141,12 +142,7 @@ impl Chip {
             self.pool[usize::from(self.table[here])][slot] = entry.bytes;
             return Ok(());
         }
-        if !self.written.is_needed(block, self.live - 1) {
-            let page = self.free_page().ok_or(Refusal::Pages)?;
-            self.table[here] = page as u16;
-            self.owners[page as usize] = here as u32;
-            self.hint = page + 1;
-        }
+        let page = self.page_for(block)?;
         let bytes = if let Some(way) = hit {
             let entry = self.cache.entry(line, way);
             edit(&mut entry.bytes, width, offset, value);
@@ -158,25 +154,71 @@ impl Chip {
             self.cache.fill(line, frame, bytes);
             bytes
         };
-        self.pool[usize::from(self.table[here])][slot] = bytes;
+        self.pool[usize::from(page)][slot] = bytes;
         self.written.set(line, self.live - 1);
         Ok(())
     }
 
-    /// A page is held if its owner's table entry points back and the owner is needed.
-    fn is_held(&self, page: u32) -> bool {
-        let owner = self.owners[page as usize];
-        if self.table.get(owner as usize).copied().map(u32::from) != Some(page) {
-            return false;
+    /// The page of a block in the current frame: its own, and else the next of the ring.
+    fn page_for(&mut self, block: u32) -> Result<u16, Refusal> {
+        let here = self.place(self.cmf, block);
+        let owner = self.cmf * 512 + block;
+        if self.is_own(self.table[here], owner) {
+            return Ok(self.table[here]);
         }
-        let index = self.written.index_of(owner / self.blocks);
-        self.written.is_needed(owner % self.blocks, index)
+        if self.used == self.pages {
+            return Err(Refusal::Pages);
+        }
+        let page = self.page_at(self.used);
+        self.table[here] = page as u16;
+        self.owners[page as usize] = owner;
+        self.used += 1;
+        Ok(page as u16)
     }
 
-    /// The next page from the hint on that is not held.
-    fn free_page(&self) -> Option<u32> {
-        let mut round = (self.hint..self.pages).chain(0..self.hint.min(self.pages));
-        round.find(|page| !self.is_held(*page))
+    /// The page at a position of the ring.
+    #[inline]
+    fn page_at(&self, i: u32) -> u32 {
+        let page = self.first + i;
+        if page < self.pages {
+            page
+        } else {
+            page - self.pages
+        }
+    }
+
+    /// Whether a page is needed, and by this owner.
+    #[inline]
+    fn is_own(&self, page: u16, owner: u32) -> bool {
+        let page = u32::from(page);
+        let behind = if page < self.first { self.pages } else { 0 };
+        page + behind - self.first < self.used && self.owners[page as usize] == owner
+    }
+
+    /// The index from OMF of the frame of a page.
+    #[inline]
+    fn index_at(&self, page: u32) -> u32 {
+        self.written.index_of(self.owners[page as usize] / 512)
+    }
+
+    /// How many pages of the ring lie in frames with an index below a limit.
+    fn pages_below(&self, limit: u32) -> u32 {
+        let (mut low, mut high) = (0, self.used);
+        while low < high {
+            let middle = (low + high) / 2;
+            if self.index_at(self.page_at(middle)) < limit {
+                low = middle + 1;
+            } else {
+                high = middle;
+            }
+        }
+        low
+    }
+
+    /// COUNTS: the live frames and the pages needed.
+    #[inline]
+    fn counts(&self) -> (u32, u32) {
+        (self.live, self.used)
     }
 
     fn mark(&mut self) -> Result<(), Refusal> {
@@ -197,21 +239,19 @@ impl Chip {
         self.written.rollback(self.live);
         let (written, live) = (&self.written, self.live);
         self.cache.forget(|frame| written.index_of(frame) >= live);
+        self.used = self.pages_below(self.live);
         Ok(())
     }
 
-    /// Copies the newest versions of the k oldest frames to the archive, in the blocks that have any.
-    fn fold_blocks(&mut self, first: u32, end: u32, k: u32) {
-        for block in (first..end).step_by(8) {
-            if self.written.is_blank(block, 8, k) {
-                continue;
-            }
-            for line in block..block + 8 {
-                if let Some(index) = self.written.newest(line, k - 1) {
-                    let frame = self.written.frame_at(index);
-                    let page = self.table[self.place(frame, line / 8)];
-                    self.archive[line as usize] = self.pool[usize::from(page)][line as usize % 8];
-                }
+    /// Copies the lines written in a page to the archive, and clears their bits.
+    fn fold(&mut self, page: u32) {
+        let owner = self.owners[page as usize];
+        let (frame, block) = (owner / 512, owner % 512);
+        let first = 8 * block as usize;
+        let content = &self.pool[page as usize];
+        for (slot, line) in self.archive[first..first + 8].iter_mut().enumerate() {
+            if self.written.take((first + slot) as u32, frame) {
+                *line = content[slot];
             }
         }
     }
@@ -220,11 +260,11 @@ impl Chip {
         if k == 0 || k >= self.live {
             return Err(Refusal::Marks);
         }
-        for first in (0..self.lines).step_by(SPAN) {
-            let count = (self.lines - first).min(SPAN as u32);
-            if !self.written.is_blank(first, count, k) {
-                self.fold_blocks(first, first + count, k);
-            }
+        // Older pages come first, so the newest version of a line is folded last.
+        while self.used > 0 && self.index_at(self.first) < k {
+            self.fold(self.first);
+            self.first = self.page_at(1);
+            self.used -= 1;
         }
         let written = &self.written;
         self.cache.collect(|frame| written.index_of(frame) < k);
@@ -265,5 +305,16 @@ impl Peer for Chip {
 
     fn advance(&mut self, k: u32) {
         Chip::advance(self, k).expect("accepted");
+    }
+
+    fn refused_write(&mut self, width: u32, address: u32, value: u32) {
+        let answer = Chip::write(self, width, address, value);
+        assert_eq!(answer, Err(Refusal::Pages));
+    }
+}
+
+impl Paged for Chip {
+    fn counts(&self) -> (u32, u32) {
+        Chip::counts(self)
     }
 }

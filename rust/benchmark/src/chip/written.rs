@@ -86,31 +86,6 @@ impl Written {
         }
     }
 
-    /// Whether one of a block's eight lines is written in the frame of an index.
-    #[inline]
-    pub fn is_needed(&self, block: u32, index: u32) -> bool {
-        let frame = self.frame_at(index);
-        let first = self.place(frame, 8 * block);
-        self.groups[first..first + 8]
-            .iter()
-            .any(|group| group.bits & (1 << (frame % 16)) != 0 && index < self.bound(*group))
-    }
-
-    /// Whether so many lines have no bit at all in the areas of the k oldest frames.
-    pub fn is_blank(&self, first: u32, count: u32, k: u32) -> bool {
-        let mut i = 0;
-        while i < k {
-            let frame = self.frame_at(i);
-            let at = self.place(frame, first);
-            let groups = &self.groups[at..at + count as usize];
-            if groups.iter().fold(0, |all, group| all | group.bits) != 0 {
-                return false;
-            }
-            i += 16 - frame % 16;
-        }
-        true
-    }
-
     /// The bits of an area whose index lies below a bound.
     fn below(&self, area: u32, bound: u32) -> u16 {
         let first = self.index_of(16 * area);
@@ -159,21 +134,26 @@ impl Written {
         }
     }
 
-    /// Clears the bits of the k oldest frames and moves OMF on.
-    pub fn advance(&mut self, k: u32) {
-        for area in 0..self.frames / 16 {
-            let gone = self.below(area, k);
-            if gone != 0 {
-                let from = area as usize * self.lines;
-                for group in &mut self.groups[from..from + self.lines] {
-                    group.bits &= !gone;
-                }
-            }
+    /// Whether a line is written in a live frame; its bit there is cleared.
+    #[inline]
+    pub fn take(&mut self, line: u32, frame: u32) -> bool {
+        let place = self.place(frame, line);
+        let group = self.groups[place];
+        let bit = 1 << (frame % 16);
+        let stands = group.bits & bit != 0 && self.index_of(frame) < self.bound(group);
+        if stands {
+            self.groups[place].bits = group.bits & !bit;
         }
+        stands
+    }
+
+    /// Moves OMF on past k frames whose bits that stand are cleared. What is left of their bits has a bound of 0 then.
+    pub fn advance(&mut self, k: u32) {
         for bound in &mut self.history {
-            if *bound != u16::MAX {
-                *bound = bound.saturating_sub(k as u16);
-            }
+            *bound = match *bound {
+                u16::MAX => u16::MAX,
+                bound => bound.saturating_sub(k as u16),
+            };
         }
         self.omf = self.frame_at(k);
     }

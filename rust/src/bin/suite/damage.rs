@@ -1,14 +1,15 @@
 //! Damage done to well-formed storage: in what matters, aimed at each clause of well-formedness, and in what does not matter.
+use crate::ring::{ends, owner_of};
 use crate::rng::Rng;
-use crate::stored::Stored;
+use crate::stored::{Page, Stored};
 use crate::wellformed::{tag_of, ARCHIVE, OPEN};
 
 impl Stored {
     /// Damage where it should not matter.
     pub fn harmless(&mut self, rng: &Rng) {
         let tag = self.state.registers.tag as usize;
-        match rng.below(13) {
-            0 => self.state.registers.hint = rng.odd_word(),
+        match rng.below(12) {
+            0 => self.turn_ring(rng),
             // entries of tags not used yet
             1 => {
                 let history = self.memory.history.get_mut();
@@ -32,19 +33,20 @@ impl Stored {
             4 => self.stale_bit(rng),
             // a table entry of a place that is not needed
             5 => {
-                if let Some((index, block)) = self.place_of(rng, false) {
+                if let Some((index, block)) = self.place_not_needed(rng) {
                     let at = self.table_place(index, block);
                     let pages = self.state.registers.pages;
                     self.memory.table.get_mut()[at] =
                         rng.pick(&[rng.short(), pages as u16, rng.below(pages) as u16]);
                 }
             }
-            // the owner of a page that is not held
+            // the owner of a page outside the segment
             6 => {
                 if let Some(page) = self.free_page(rng) {
-                    let places = self.state.registers.frames * (self.state.registers.lines / 8);
+                    let owner = self.any_owner(rng);
+                    let past = owner_of(self.state.registers.frames, 0);
                     self.memory.owners.get_mut()[page as usize] =
-                        rng.pick(&[rng.word(), places, rng.below(places)]);
+                        rng.pick(&[rng.word(), past, owner]);
                 }
             }
             // a byte of the archive or of the pool: another history, unless the cache has the line
@@ -68,7 +70,7 @@ impl Stored {
             }
             10 => self.state.cache.last[rng.place(16)] = rng.pick(&[0, 1, 2, 255]),
             // one more valid entry, in its place and right
-            11 => {
+            _ => {
                 if let (Some(entry), line) = (
                     self.entry_of(rng, false),
                     rng.below(self.state.registers.lines),
@@ -80,15 +82,6 @@ impl Stored {
                     if !is_held && self.state.cache.valid[home] != 1 {
                         self.fill_entry(home, line);
                     }
-                }
-            }
-            // another page for a needed place
-            _ => {
-                if let (Some((index, block)), Some(page)) =
-                    (self.place_of(rng, true), self.free_page(rng))
-                {
-                    let place = self.table_place(index, block);
-                    self.move_page(place, page);
                 }
             }
         }
@@ -113,7 +106,7 @@ impl Stored {
     /// Damage to any one element or field, whatever it means.
     pub fn anywhere(&mut self, rng: &Rng) {
         let live = self.storage().live();
-        match rng.below(10) {
+        match rng.below(11) {
             0 => {
                 let near = [live, live + 1, live.saturating_sub(1), 0, 1, 65534, 65535];
                 let value = rng.pick(&near) as u16;
@@ -140,10 +133,11 @@ impl Stored {
                 table[at] = rng.pick(&[rng.below(pages) as u16, pages as u16, rng.short()]);
             }
             3 => {
-                let places = self.state.registers.frames * (self.state.registers.lines / 8);
+                let owner = self.any_owner(rng);
+                let past = owner_of(self.state.registers.frames, 0);
                 let owners = self.memory.owners.get_mut();
                 let at = rng.place(owners.len());
-                owners[at] = rng.pick(&[rng.below(places), places, rng.word()]);
+                owners[at] = rng.pick(&[owner, past, owners[at] ^ 1, rng.word()]);
             }
             4 => {
                 let archive = self.memory.archive.get_mut();
@@ -191,6 +185,16 @@ impl Stored {
                     rng.odd_word(),
                 ])
             }
+            9 => {
+                let registers = &mut self.state.registers;
+                let register = if rng.one_in(2) {
+                    &mut registers.first
+                } else {
+                    &mut registers.used
+                };
+                let near = rng.pick(&[register.wrapping_sub(1), register.wrapping_add(1)]);
+                *register = rng.pick(&[near, near, rng.pick(&ends(registers.pages, rng))]);
+            }
             _ => {
                 let field = rng.pick(&[0, 1, 2]);
                 let state = &mut self.state;
@@ -228,7 +232,7 @@ impl Stored {
     /// Damage that only one clause of well-formedness notices, where the storage has the place for it.
     pub fn aimed(&mut self, rng: &Rng) {
         let tag = self.state.registers.tag;
-        match rng.below(13) {
+        match rng.below(18) {
             0 => {
                 // a tag of 9 bits, with an open entry past the need
                 self.lengthen(rng);
@@ -246,44 +250,28 @@ impl Stored {
             }
             4 => self.dead_frame(rng),
             5 => {
-                // the page just behind the P
-                if let Some((index, block)) = self.place_of(rng, true) {
-                    self.lengthen(rng);
-                    let place = self.table_place(index, block);
-                    self.move_page(place, self.state.registers.pages);
-                }
-            }
-            6 => {
-                if let Some((index, block)) = self.place_of(rng, true) {
-                    let place = self.table_place(index, block);
-                    let page = usize::from(self.memory.table.get()[place]);
-                    let other = rng.pick(&[place as u32 ^ 1, rng.word(), u32::MAX]);
-                    self.memory.owners.get_mut()[page] = other;
-                }
-            }
-            7 => {
                 let (entry, line) = (rng.place(32), rng.below(self.state.registers.lines));
                 if line as usize % 16 != entry / 2 {
                     self.fill_entry(entry, line);
                 }
             }
-            8 => {
+            6 => {
                 let entry = rng.place(32);
                 let line = self.state.registers.lines.next_multiple_of(16) + (entry / 2) as u32;
                 let line = line + 16 * rng.below(3);
                 self.fill_entry(entry, rng.pick(&[line, u32::MAX - 15 + (entry / 2) as u32]));
             }
-            9 => {
+            7 => {
                 if let Some(entry) = self.entry_of(rng, true) {
                     self.fill_entry(entry ^ 1, self.state.cache.lines[entry]);
                 }
             }
-            10 => {
+            8 => {
                 if let Some(entry) = self.entry_of(rng, true) {
                     self.state.cache.bytes[16 * entry + rng.place(16)] ^= 1 << rng.below(8);
                 }
             }
-            11 => {
+            9 => {
                 if let Some(entry) = self.entry_of(rng, true) {
                     let frame = rng.below(self.state.registers.frames) as u16;
                     self.state.cache.frames[entry] = rng.pick(&[
@@ -294,16 +282,7 @@ impl Stored {
                     ]);
                 }
             }
-            _ => {
-                // two places share a page, which knows one of them
-                if let (Some((index, block)), Some((other, its))) =
-                    (self.place_of(rng, true), self.place_of(rng, true))
-                {
-                    let page = self.memory.table.get()[self.table_place(other, its)];
-                    let place = self.table_place(index, block);
-                    self.memory.table.get_mut()[place] = page;
-                }
-            }
+            _ => self.aimed_at_ring(rng),
         }
     }
 
@@ -324,21 +303,18 @@ impl Stored {
         }
     }
 
-    /// An effective bit in a frame that is not live, with a page of its own.
+    /// An effective bit in a frame that is not live, with a page of its own behind all others.
     fn dead_frame(&mut self, rng: &Rng) {
-        let live = self.storage().live();
-        let Some(page) = self.free_page(rng) else {
-            return;
-        };
-        if live == self.state.registers.frames {
+        let (live, frames) = (self.storage().live(), self.state.registers.frames);
+        let mut pages = self.needed_pages();
+        if live == frames || pages.len() as u32 == self.state.registers.pages {
             return;
         }
-        let index = rng.between(live, self.state.registers.frames - 1);
+        let index = rng.between(live, frames - 1);
         let line = rng.below(self.state.registers.lines);
         let storage = self.storage();
         let frame = storage.frame_at(index);
         let at = storage.group_place(frame, line);
-        let place = storage.table_place(frame, line);
         let group = storage.memory.groups[at];
         let bound = storage.memory.history[tag_of(group)];
         let groups = self.memory.groups.get_mut();
@@ -346,7 +322,15 @@ impl Stored {
             groups[at] = self.state.registers.tag << 16;
         }
         groups[at] |= 1 << (frame % 16);
-        self.memory.table.get_mut()[place] = page as u16;
-        self.memory.owners.get_mut()[page as usize] = place as u32;
+        // the group may have lost older bits
+        let storage = self.storage();
+        pages.retain(|page| storage.needed(page.index, page.block));
+        pages.push(Page {
+            index,
+            block: line / 8,
+            bytes: [0; 128],
+        });
+        self.lay_out(&pages, rng);
+        self.renew_entries();
     }
 }

@@ -1,25 +1,21 @@
 //! Document 01's session and its cases at the edges, with the answers that it names, and a pool and a circle filled to the last page
-//! and frame. The plain store is asked the same.
+//! and frame. The plain store is asked the same. The ring's own cases are in `ring_edges`.
 use crate::call::{Answer, Call, Origin};
 use crate::memory::{Lengths, Memory};
-use crate::plain::{Plain, Settings};
+use crate::plain::Settings;
+use crate::ring_edges;
 use crate::rng::Rng;
 use crate::side::Pair;
 use crate::tally::Tally;
-use vcm::calls;
 
-fn pair(lines: u32, frames: u32, pages: u32, tally: &mut Tally) -> Result<Pair, String> {
+pub fn pair(lines: u32, frames: u32, pages: u32, tally: &mut Tally) -> Result<Pair, String> {
     let settings = Settings {
         lines,
         frames,
         pages,
     };
     let rng = Rng::new(0xED6E);
-    let mut pair = Pair {
-        state: calls::blank(),
-        memory: Memory::new(Lengths::of(settings), &rng),
-        plain: Plain::blank(),
-    };
+    let mut pair = Pair::new(Memory::new(Lengths::of(settings), &rng));
     let reset = Call::Reset {
         lines,
         frames,
@@ -29,7 +25,7 @@ fn pair(lines: u32, frames: u32, pages: u32, tally: &mut Tally) -> Result<Pair, 
     Ok(pair)
 }
 
-fn done(refusal: u32) -> Answer {
+pub fn done(refusal: u32) -> Answer {
     Answer::Outcome { refusal }
 }
 
@@ -41,7 +37,7 @@ fn gives(value: u32, origin: Origin) -> Answer {
     }
 }
 
-fn write(width: u32, address: u32, value: u32) -> Call {
+pub fn write(width: u32, address: u32, value: u32) -> Call {
     Call::Write {
         width,
         address,
@@ -53,7 +49,12 @@ fn read(width: u32, address: u32) -> Call {
     Call::Read { width, address }
 }
 
-fn expect(pair: &mut Pair, call: Call, answer: Answer, tally: &mut Tally) -> Result<(), String> {
+pub fn expect(
+    pair: &mut Pair,
+    call: Call,
+    answer: Answer,
+    tally: &mut Tally,
+) -> Result<(), String> {
     let given = pair.step(call, tally)?;
     if given != answer {
         return Err(format!("{call:?} answers {given:?}, the paper {answer:?}"));
@@ -224,6 +225,7 @@ pub fn run(is_small: bool) -> Result<Tally, String> {
     circle(16, &mut tally).map_err(edge)?;
     pool(8, 16, 1, &mut tally).map_err(edge)?;
     pool(64, 32, 100, &mut tally).map_err(edge)?;
+    ring_edges::run(&mut tally).map_err(edge)?;
     if !is_small {
         circle(256, &mut tally).map_err(edge)?;
         pool(4096, 256, 4096, &mut tally).map_err(edge)?;

@@ -14,11 +14,24 @@ pub struct Pair {
     pub state: State,
     pub memory: Memory,
     pub plain: Plain,
+    /// the page where the needed ones start, by the pages that ADVANCE has freed since RESET
+    first: u32,
 }
 
 impl Pair {
+    /// No store yet, on memory of any contents.
+    pub fn new(memory: Memory) -> Pair {
+        Pair {
+            state: calls::blank(),
+            memory,
+            plain: Plain::blank(),
+            first: 0,
+        }
+    }
+
     /// One call on both, with the memory as lent now.
     pub fn step(&mut self, call: Call, tally: &mut Tally) -> Result<Answer, String> {
+        let pages = self.plain.pages();
         let expected = self.plain.answer(call, self.memory.lengths());
         let given = ask(&mut self.state, &mut self.memory, call, tally);
         if given != expected {
@@ -26,7 +39,28 @@ impl Pair {
                 "{call:?} answers {given:?}, the plain store {expected:?}"
             ));
         }
+        match call {
+            Call::Reset { .. } if given.refusal() == 0 => self.first = 0,
+            Call::Advance(_) if given.refusal() == 0 => {
+                let freed = pages - self.plain.pages();
+                self.first = (self.first + freed) % self.plain.settings.pages;
+            }
+            _ => {}
+        }
+        self.ring_agrees(call)?;
         Ok(given)
+    }
+
+    /// The segment of needed pages starts where it should and has as many as the plain store needs.
+    fn ring_agrees(&self, call: Call) -> Result<(), String> {
+        let ring = (self.state.registers.first, self.state.registers.used);
+        let expected = (self.first, self.plain.pages());
+        if ring != expected {
+            return Err(format!(
+                "after {call:?} first and used are {ring:?}, not {expected:?}"
+            ));
+        }
+        Ok(())
     }
 
     /// A call on another state in the same memory, which must be refused with 5 and handed back.
@@ -69,11 +103,7 @@ fn run(seed: u64, first: Settings, steps: u32, tally: &mut Tally) -> Result<(), 
     if rng.one_in(2) {
         whole = whole.longer(&rng);
     }
-    let mut pair = Pair {
-        state: calls::blank(),
-        memory: Memory::new(whole, &rng),
-        plain: Plain::blank(),
-    };
+    let mut pair = Pair::new(Memory::new(whole, &rng));
     let untouched = pair.memory.clone();
     let fail = |step: u32, words: String| {
         format!("side by side, seed {seed:#x}, {first:?}, step {step}: {words}")
@@ -123,7 +153,7 @@ fn run(seed: u64, first: Settings, steps: u32, tally: &mut Tally) -> Result<(), 
         }
         pair.memory.lend(whole);
         if rng.one_in(16 * seldom) {
-            history_agrees(&mut pair).map_err(|words| fail(step, words))?;
+            history_agrees(&pair).map_err(|words| fail(step, words))?;
         }
     }
     let past = pair.memory.touched_past(&untouched, most);
@@ -137,7 +167,7 @@ fn run(seed: u64, first: Settings, steps: u32, tally: &mut Tally) -> Result<(), 
 }
 
 /// The storage is well-formed by the independent decision and stands for the plain store's history.
-fn history_agrees(pair: &mut Pair) -> Result<(), String> {
+pub fn history_agrees(pair: &Pair) -> Result<(), String> {
     if !facts(&pair.state, &pair.memory).fits {
         return Err("the state is outside its limits".to_string());
     }

@@ -2,6 +2,7 @@
 //! Written from the definitions (specs of `storage`, `written`, `pages`, `cache` and `rules`), not from the library's tests.
 use crate::memory::Memory;
 use crate::plain::{Facts, Frame, Plain, Settings};
+use crate::ring::owner_of;
 use vcm::calls::Shown;
 use vcm::State;
 
@@ -19,10 +20,22 @@ pub enum Clause {
     Ordered,
     /// effective bits are in live frames only
     OnlyLive,
-    /// a needed place has one of the P pages
+    /// R1: the segment of needed pages starts at one of the P pages
+    Start,
+    /// and has no more pages than there are
+    Length,
+    /// R2: a page of the segment has a needed place as its owner
+    OwnerNeeded,
+    /// and the table has that page for the place
+    OwnerBack,
+    /// R3: a needed place has one of the P pages
     PageBelow,
-    /// and the page knows it
+    /// the page lies in the segment
+    PageInside,
+    /// and its owner is the place
     PageOwner,
+    /// R4: the indexes of the owners' frames never fall along the segment
+    Rising,
     /// a valid entry of way 0 is in its line's set
     FirstSet,
     /// and its line is below L
@@ -38,14 +51,20 @@ pub enum Clause {
     Frame,
 }
 
-pub const CLAUSES: [Clause; 14] = [
+pub const CLAUSES: [Clause; 20] = [
     Clause::TagBelow,
     Clause::TagsKnown,
     Clause::OpenTag,
     Clause::Ordered,
     Clause::OnlyLive,
+    Clause::Start,
+    Clause::Length,
+    Clause::OwnerNeeded,
+    Clause::OwnerBack,
     Clause::PageBelow,
+    Clause::PageInside,
     Clause::PageOwner,
+    Clause::Rising,
     Clause::FirstSet,
     Clause::FirstBelow,
     Clause::SecondSet,
@@ -163,7 +182,8 @@ impl<'a> Storage<'a> {
             }
         };
         self.bits(&mut hold);
-        self.pages(&mut hold);
+        self.segment(&mut hold);
+        self.places(&mut hold);
         self.cache(&mut hold);
         failing
     }
@@ -194,18 +214,43 @@ impl<'a> Storage<'a> {
         );
     }
 
-    fn pages(&self, hold: &mut impl FnMut(Clause, bool)) {
-        let state = self.state;
-        for index in 0..state.registers.frames {
-            for block in 0..state.registers.lines / 8 {
+    /// R1 and, position by position, R2 and R4.
+    fn segment(&self, hold: &mut impl FnMut(Clause, bool)) {
+        let registers = &self.state.registers;
+        hold(Clause::Start, registers.first < registers.pages);
+        hold(Clause::Length, registers.used <= registers.pages);
+        // the positions come round with the pool: past twice its pages there is no new one, and no new pair of neighbours
+        let count = registers.used.min(2 * registers.pages);
+        let owner_at = |position| self.memory.owners[self.page_at(position) as usize];
+        for position in 0..count {
+            let owner = owner_at(position);
+            hold(Clause::OwnerNeeded, self.is_needed_owner(owner));
+            // past the end of the list every entry reads 0
+            let entry = self.memory.table.get(self.table_entry(owner)).copied();
+            let page = u32::from(entry.unwrap_or(0));
+            hold(Clause::OwnerBack, page == self.page_at(position));
+            if position + 1 < count {
+                let next = self.owner_index(owner_at(position + 1));
+                hold(Clause::Rising, self.owner_index(owner) <= next);
+            }
+        }
+    }
+
+    /// R3, place by place.
+    fn places(&self, hold: &mut impl FnMut(Clause, bool)) {
+        let registers = &self.state.registers;
+        for index in 0..registers.frames {
+            for block in 0..registers.lines / 8 {
                 if !self.needed(index, block) {
                     continue;
                 }
-                let place = self.table_place(self.frame_at(index), 8 * block);
-                let page = self.memory.table[place];
-                let owner = self.memory.owners.get(usize::from(page)).copied();
-                hold(Clause::PageBelow, u32::from(page) < state.registers.pages);
-                hold(Clause::PageOwner, owner.unwrap_or(0) as usize == place);
+                let frame = self.frame_at(index);
+                let page = u32::from(self.memory.table[self.table_place(frame, 8 * block)]);
+                let owner = self.memory.owners.get(page as usize).copied();
+                let owner = owner.unwrap_or(0);
+                hold(Clause::PageBelow, page < registers.pages);
+                hold(Clause::PageInside, self.position_of(page) < registers.used);
+                hold(Clause::PageOwner, owner == owner_of(frame, block));
             }
         }
     }

@@ -2,6 +2,7 @@
 use crate::call::{ask, Call};
 use crate::memory::{Lengths, Memory};
 use crate::plain::Settings;
+use crate::ring::{ends, owner_of};
 use crate::rng::Rng;
 use crate::script::Script;
 use crate::stored::Stored;
@@ -53,7 +54,8 @@ fn any_state(rng: &Rng) -> State {
         cmf: rng.odd_word(),
         omf: rng.odd_word(),
         tag: rng.odd_word(),
-        hint: rng.odd_word(),
+        first: rng.odd_word(),
+        used: rng.odd_word(),
     };
     State { registers, cache }
 }
@@ -69,13 +71,27 @@ pub fn random_storage(rng: &Rng) -> Stored {
         state.registers.cmf = rng.below(settings.frames);
         state.registers.omf = rng.below(settings.frames);
         state.registers.tag = rng.pick(&[state.registers.tag, rng.below(256)]);
+        state.registers.first = rng.pick(&ends(settings.pages, rng));
+        state.registers.used = rng.pick(&ends(settings.pages, rng));
     }
     let mut lengths = Lengths::of(settings);
     if rng.one_in(4) {
         lengths = lengths.changed(rng);
     }
     let memory = Memory::new(lengths, rng);
-    Stored { state, memory }
+    let mut stored = Stored { state, memory };
+    if rng.one_in(2) {
+        own_pages(&mut stored, settings, rng);
+    }
+    stored
+}
+
+/// A table of pages of the pool and owners that are places, still in any order.
+fn own_pages(stored: &mut Stored, settings: Settings, rng: &Rng) {
+    let owner = || owner_of(rng.below(settings.frames), rng.below(settings.lines / 8));
+    stored.memory.owners.get_mut().fill_with(owner);
+    let page = || rng.below(settings.pages) as u16;
+    stored.memory.table.get_mut().fill_with(page);
 }
 
 /// Storage that a random run leaves, for damage to be done to.

@@ -3,7 +3,7 @@
 use mathlib.Core.Path.{_≡_, refl, sym, _∙_, ap, ap₂, subst}
 use mathlib.Core.Bool.{Bool, true, false, _&&_}
 use Prim.Native.Nat.{ℕ, suc, _+_, _-_, _*_, _/_, _%_, _^_, _≤_, _<_}
-use native.Mathlib.Nat.{mod-lt, div-eq-of-lt, div-mul-le-self, zero-div, zero-mod, mul-div-cancel, mul-mod-left, lt-of-le-of-lt, add-mul, mul-assoc, mul-comm, one-mul, div-eq-of-lt-le, pow-succ', sub-add-cancel, div-lt-iff-lt-mul, add-assoc}
+use native.Mathlib.Nat.{mod-lt, div-eq-of-lt, div-mul-le-self, zero-div, zero-mod, mul-div-cancel, mul-mod-left, lt-of-le-of-lt, add-mul, mul-assoc, mul-comm, one-mul, div-eq-of-lt-le, pow-succ', sub-add-cancel, div-lt-iff-lt-mul, add-assoc, mod-le, div-add-mod'}
 use native.Mathlib.Decide.{decLt, decLe}
 use native.Mathlib.Omega.{arith}
 use lib.Arith.{digits-div, digits-mod, digits-lt}
@@ -12,7 +12,7 @@ use lib.Pow.{pow-pos, pow-mono, pow-add, field, mod-mod-pow, shr-shr, shl-exact}
 use lib.Count.{leadingZeros, leading-top}
 use borrow.Author.Tests.{lt-leb, le-leb}
 use Rattle.frames.specs.declared.Found.the-variants.{At, Nothing}
-use Rattle.frames.specs.Digits.{digit, bit, rangeOf, setAt, newestBit}
+use Rattle.frames.specs.Digits.{digit, bit, rangeOf, setAt, unsetAt, newestBit}
 use Rattle.frames.proofs.Search.{greatest-none, greatest-at}
 
 digit-mod : (x k q : ℕ) → q < k → digit (x % 2 ^ k) q ≡ digit x q
@@ -114,7 +114,55 @@ set-small m x p h b =
     let rest : 2 ^ p + x % 2 ^ p < 2 ^ (p + 1) = omega (arith, mod-lt x (pow-pos p), pow-add 2 p 1) in
     rw (e, add-assoc) (digits-lt above rest)
 
+-- UNSET
+unset-law : (a b c r : ℕ) → c ≡ b * 2 → a * c + r ≡ a * 2 * b + r
+unset-law a b c r e = ap (λ (n : ℕ). n + r) (ap (λ (n : ℕ). a * n) (e ∙ mul-comm b 2) ∙ sym (mul-assoc a 2 b))
+
+module _ (x p : ℕ) where
+  unset-split : unsetAt x p ≡ half x p * 2 * 2 ^ p + x % 2 ^ p
+  unfolding unsetAt half
+  unset-split = unset-law (x / 2 ^ (p + 1)) (2 ^ p) (2 ^ (p + 1)) (x % 2 ^ p) (pow-add 2 p 1)
+
+  pub unset-under : (q : ℕ) → q < p → digit (unsetAt x p) q ≡ digit x q
+  unset-under q h =
+      digit-below (unsetAt x p) x p q (ap (λ (n : ℕ). n % 2 ^ p) unset-split ∙ digits-mod (half x p * 2) (mod-lt x (pow-pos p))) h
+
+  unset-div : unsetAt x p / 2 ^ p ≡ half x p * 2
+  unset-div = ap (λ (n : ℕ). n / 2 ^ p) unset-split ∙ digits-div (half x p * 2) (mod-lt x (pow-pos p))
+
+  pub unset-own : digit (unsetAt x p) p ≡ 0
+  unfolding digit
+  unset-own = ap (λ (n : ℕ). n % 2) unset-div ∙ omega arith
+
+  pub unset-over : (q : ℕ) → p < q → digit (unsetAt x p) q ≡ digit x q
+  unfolding half
+  unset-over q h =
+      digit-from (unsetAt x p) x (p + 1) q
+      (sym (shr-shr (unsetAt x p) p 1) ∙ (ap (λ (n : ℕ). n / 2) unset-div ∙ omega arith)) (omega arith)
+
+  pub unset-le : unsetAt x p ≤ x
+  unfolding unsetAt
+  unset-le =
+      let h : x % 2 ^ p ≤ x % 2 ^ (p + 1) = low-le in
+      omega (arith, h, div-add-mod' x (2 ^ (p + 1)))
+    where
+      low-le : x % 2 ^ p ≤ x % 2 ^ (p + 1)
+      low-le =
+          let turn : p + 1 ≡ 1 + p = omega arith in
+          subst (λ (n : ℕ). n ≤ x % 2 ^ (p + 1)) (ap (λ (k : ℕ). x % 2 ^ k % 2 ^ p) turn ∙ mod-mod-pow x 1 p) (mod-le (x % 2 ^ (p + 1)) (2 ^ p))
+
+-- in the form in which the code has it
+pub unset-told : (x p here above : ℕ) → here ≡ 2 ^ p → above ≡ 2 ^ (p + 1) → x < 65536 → (x / above * above + x % here ≡ unsetAt x p) × (x / above * above + x % here < 65536)
+unfolding unsetAt
+unset-told x p here above e d b =
+    let same : x / above * above + x % here ≡ x / 2 ^ (p + 1) * 2 ^ (p + 1) + x % 2 ^ p = ap₂ (λ (h a : ℕ). x / a * a + x % h) e d in
+    (same, omega (arith, same, unset-le x p))
+
 -- BITS
+pub bit-told : (x p here : ℕ) → here ≡ 2 ^ p → eqb (x / here % 2) 1 ≡ bit x p
+unfolding bit digit
+bit-told x p here e = ap (λ (h : ℕ). eqb (x / h % 2) 1) e
+
 pub digit-bit : (x y p q : ℕ) → digit x p ≡ digit y q → bit x p ≡ bit y q
 unfolding bit
 digit-bit x y p q e = ap (λ (n : ℕ). eqb n 1) e

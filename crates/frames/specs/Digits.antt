@@ -21,6 +21,10 @@ rangeOf x lo hi = x % 2 ^ hi / 2 ^ lo * 2 ^ lo
 unfoldable pub setAt : (x p : ℕ) → ℕ
 setAt x p = x / 2 ^ (p + 1) * 2 ^ (p + 1) + 2 ^ p + x % 2 ^ p
 
+-- x with digit p cleared.
+unfoldable pub unsetAt : (x p : ℕ) → ℕ
+unsetAt x p = x / 2 ^ (p + 1) * 2 ^ (p + 1) + x % 2 ^ p
+
 -- The highest set digit of x from lo on and below hi.
 unfoldable pub newestBit : (x lo hi : ℕ) → Found
 newestBit x lo hi = greatest hi (λ q. leb lo q && bit x q)

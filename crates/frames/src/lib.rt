@@ -4,7 +4,7 @@ ghost use mathlib.Core.Path.{_≡_};
 ghost use Prim.Native.Nat.{_<_, _^_};
 ghost use Rattle.rules.specs.Registers.{liveBetween};
 ghost use Rattle.frames.specs.Circle.{Turn, indexOf, frameAt};
-ghost use Rattle.frames.specs.Digits.{Ends, rangeOf, setAt, newestBit};
+ghost use Rattle.frames.specs.Digits.{Ends, rangeOf, setAt, newestBit, bit, unsetAt};
 
 // A place that a search finds.
 pub enum Found {
@@ -90,6 +90,24 @@ pub fn with_bit(x: u32, p: u32) -> u32
     let here = power(p);
     let above = power(p + 1);
     x / above * above + here + x % here
+}
+
+// The number with a bit cleared.
+pub fn without_bit(x: u32, p: u32) -> u32
+    requires { ⌜ (x < 65536) × (p < 16) ⌝ }
+    ensures { λ r. ⌜ (r ≡ unsetAt x p) × (r < 65536) ⌝ }
+{
+    let here = power(p);
+    let above = power(p + 1);
+    x / above * above + x % here
+}
+
+// Whether a bit is set.
+pub fn is_set(x: u32, p: u32) -> bool
+    requires { ⌜ p < 32 ⌝ }
+    ensures { λ r. ⌜ r ≡ bit x p ⌝ }
+{
+    x / power(p) % 2 == 1
 }
 
 // The highest set digit of x from lo on and below hi, by the leading zeros of what is left of x.

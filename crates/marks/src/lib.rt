@@ -106,27 +106,9 @@ pub fn advance(
         return Step { registers, refusal };
     }
     let ring = storage::ring(registers);
-    let gone = pages::segment::pages_below(owners, ring, k);
-    versions::fold(
-        archive,
-        pool,
-        groups,
-        table,
-        history,
-        registers.lines,
-        registers.frames,
-        registers.omf,
-        registers.pages,
-        k,
-    );
-    written::advance(
-        groups,
-        history,
-        registers.lines,
-        registers.frames,
-        registers.omf,
-        k as u16,
-    );
+    let gone = versions::fold(archive, pool, groups, history, owners, ring, k);
+    versions::clear(groups, owners, ring, gone);
+    written::lower(history, k as u16);
     cache::collect(origins, registers.omf, registers.frames, k);
     let omf = (registers.omf + k) % registers.frames;
     registers.omf = omf;

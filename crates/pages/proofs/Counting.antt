@@ -5,12 +5,11 @@ use Prim.Native.Nat.{ℕ, zero, suc, _+_, _-_, _*_, _%_, _≤_, _<_}
 use native.Mathlib.Nat.{add-zero, add-suc, add-assoc, add-comm, suc-mul, zero-add}
 use native.Mathlib.Omega.{arith}
 use native.Mathlib.Decide.{ℕ-discrete}
-use borrow.Author.Tests.{eq-eqb, ne-eqb, eqb-true}
+use borrow.Author.Tests.{eq-eqb, ne-eqb}
 use lib.Dec.{eqb}
 use Rattle.rules.specs.Seen.{count, needs}
 use Rattle.rules.specs.Figure2.{pagesOf}
 use Rattle.rules.proofs.Count.{count-same, count-none, any-none, pages-same}
-use Rattle.rules.proofs.Tests.{both-true}
 use Rattle.rules.proofs.Circle.{reaches-index}
 use mathlib.Core.Logic.{_≢_, inl, inr}
 use Rattle.frames.specs.Circle.{indexOf}

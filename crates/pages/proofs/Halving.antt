@@ -1,14 +1,14 @@
 -- A search by halving: the edge that it keeps, and what the edge is where the numbers never fall. Assumes nothing.
-use mathlib.Core.Path.{_≡_, refl, sym, _∙_, ap}
+use mathlib.Core.Path.{_≡_, sym, ap}
 use mathlib.Core.Bool.{Bool, cond}
 use mathlib.Core.List.{List}
-use Prim.Native.Nat.{ℕ, zero, suc, _+_, _-_, _/_, _≤_, _<_}
+use Prim.Native.Nat.{ℕ, zero, suc, _+_, _/_, _≤_, _<_}
 use native.Mathlib.Omega.{arith}
 use borrow.Author.Tests.{lt-ltb, le-ltb}
 use lib.ListN.{length, getD}
-use Rattle.frames.specs.Circle.{indexOf, frameAt, Turn}
+use Rattle.frames.specs.Circle.{indexOf, frameAt}
 use Rattle.frames.proofs.Circle.{frame-below}
-use Rattle.pages.specs.Ring.{Rising, Splits, Leading, AsksRing, ownerIndex, indexAt}
+use Rattle.pages.specs.Ring.{Rising, Splits, Leading, Leads, AsksRing, ownerIndex, indexAt}
 
 -- the index of an owner's frame
 module _ (frames omf owner : ℕ) where
@@ -53,6 +53,11 @@ edge-splits n f limit (suc r) h up =
       low = λ i b. omega (arith, h .last r (omega arith), up i r (omega arith) (omega (arith, h .few)));
       high = λ i a b. omega (arith, h .next (omega arith), up (suc r) i a b);
     }
+
+-- one after the other, it is found too
+pub leads-splits : (n : ℕ) (f : ℕ → ℕ) (limit r : ℕ) → Leads n f limit r → Rising n f → Splits n f limit r
+leads-splits n f limit r h up =
+    record { few = h .few; low = h .low; high = λ i a b. omega (arith, h .stop (omega arith), up r i a b) }
 
 pub edge-leading : (n : ℕ) (f : ℕ → ℕ) (limit low high : ℕ) → Edge n f limit low high → high ≤ low → Leading n f limit low
 edge-leading n f limit low high h b =

@@ -19,9 +19,9 @@ use Rattle.written.specs.Steps.{RolledBack}
 use Rattle.written.specs.Well.{WellBits}
 use Rattle.written.proofs.Setting.{set-effective, after}
 use Rattle.written.proofs.Rolling.{rolled, rolled-effective}
-use Rattle.written.proofs.Advancing.{advanced, advanced-effective, index-kept, frame-kept}
+use Rattle.written.proofs.Advancing.{Collected, advanced, advanced-effective, index-kept, frame-kept}
 use Rattle.pages.specs.Table.{blocksOf, placesOf, placeAt, entriesOf, entryOf, neededAt}
-use Rattle.pages.specs.Ring.{pageAt, Leading, ownerIndex, indexAt, WellRing}
+use Rattle.pages.specs.Ring.{pageAt, Leading, Splits, ownerIndex, indexAt, WellRing}
 use Rattle.pages.proofs.Needs.{needed-block, needed-line, line-needed}
 use Rattle.pages.proofs.Halving.{index-own}
 use Rattle.pages.proofs.Moves.{claimed-ring, same-ring, kept-ring, passed-ring, empty-ring}
@@ -65,9 +65,9 @@ module _ (w : Written) (tag kept live : ℕ) (q : WellBits w tag live) (groups h
       kept-ring (neededAt w) (neededAt back) (placesOf w) pages first used left kept _ _ _ o (found .exact (o .rising)) rolled-only rolled-keeps
 
 -- ADVANCE: those needed before with an index from k on, which goes down by k.
-module _ (w : Written) (lent : Lent w) (k : ℕ) (below : k < w .frames) where
+module _ (w : Written) (lent : Lent w) (k : ℕ) (below : k < w .frames) (groups : List ℕ) (c : Collected w k groups) where
   abbrev on : Written
-  on = advanced w lent k below
+  on = advanced w lent k below groups c
 
   abbrev start : ℕ
   start = frameAt (w .frames) (w .omf) k
@@ -104,7 +104,7 @@ module _ (w : Written) (lent : Lent w) (k : ℕ) (below : k < w .frames) where
   advanced-only x b e =
       let h = needed-line on x e in
       let j : ℕ = indexOf (w .frames) start (x / 512) in
-      let t = both-true _ _ (sym (advanced-effective w lent k below j (h .0) (index-below (w .frames) start start-below (x / 512)) (h .1)) ∙ h .3) in
+      let t = both-true _ _ (sym (advanced-effective w lent k below groups c j (h .0) (index-below (w .frames) start start-below (x / 512)) (h .1)) ∙ h .3) in
       let same = index-up (x / 512) (omega arith) (ltb-true (k + j) (w .frames) (t .0)) in
       (line-needed w x (h .0) (needed-block on x e) (h .2) (ap (λ (z : ℕ). effective w z (h .0)) same ∙ t .1), omega (arith, before-is x b))
 
@@ -114,7 +114,7 @@ module _ (w : Written) (lent : Lent w) (k : ℕ) (below : k < w .frames) where
       let j : ℕ = indexOf (w .frames) start (x / 512) in
       let same : k + j ≡ indexOf (w .frames) (w .omf) (x / 512) = index-down (x / 512) (omega arith) (omega (arith, before-is x b)) in
       line-needed on x (h .0) (needed-block w x e) (h .2)
-      (advanced-effective w lent k below j (h .0) (index-below (w .frames) start start-below (x / 512)) (h .1)
+      (advanced-effective w lent k below groups c j (h .0) (index-below (w .frames) start start-below (x / 512)) (h .1)
       ∙ ap₂ (λ (s t : Bool). s && t) (lt-ltb (k + j) (w .frames) (omega (arith, index-below (w .frames) (w .omf) (lent .omf-below) (x / 512)))) (ap (λ (z : ℕ). effective w z (h .0)) same ∙ h .3))
 
   advanced-down : (x : ℕ) → x < placesOf w → neededAt w x ≡ true → k ≤ ownerIndex (w .frames) (w .omf) x
@@ -123,10 +123,10 @@ module _ (w : Written) (lent : Lent w) (k : ℕ) (below : k < w .frames) where
       omega (arith, before-is x b, after-is x b, index-down (x / 512) (omega arith) (omega (arith, before-is x b)))
 
   pub advanced-ring : (pages first used gone : ℕ) (table owners : List ℕ) → WellRing w pages first used table owners
-      → Leading used (indexAt (w .frames) (w .omf) pages first owners) k gone → WellRing on pages (pageAt pages first gone) (used - gone) table owners
+      → Splits used (indexAt (w .frames) (w .omf) pages first owners) k gone → WellRing on pages (pageAt pages first gone) (used - gone) table owners
   unfolding indexAt
-  advanced-ring pages first used gone table owners o found =
-      passed-ring (neededAt w) (neededAt on) (placesOf w) pages first used gone k _ _ _ _ o (found .exact (o .rising)) advanced-only advanced-keeps advanced-down
+  advanced-ring pages first used gone table owners o parts =
+      passed-ring (neededAt w) (neededAt on) (placesOf w) pages first used gone k _ _ _ _ o parts advanced-only advanced-keeps advanced-down
 
 -- WRITE to a line in the newest live frame.
 module _ (w : Written) (tag l i : ℕ) (a : Asks w l i) (small : tag < 256) (open-tag : getD (w .history) tag 0 ≡ 65535) (by : w .lines % 8 ≡ 0) where

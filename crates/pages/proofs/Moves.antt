@@ -1,7 +1,7 @@
 -- The segment of needed pages: as many as places are needed, and what keeps it: a page given out, a rollback, an advance, a reset. The laws
 -- are over any table, owners, indexes and need. Assumes nothing.
-use mathlib.Core.Path.{_≡_, refl, sym, _∙_, ap, subst}
-use mathlib.Core.Bool.{Bool, true, false, cond, _&&_}
+use mathlib.Core.Path.{_≡_, sym, _∙_, ap, subst}
+use mathlib.Core.Bool.{Bool, true}
 use mathlib.Core.Logic.{_≢_}
 use mathlib.Core.List.{List}
 use Prim.Native.Nat.{ℕ, _+_, _-_, _%_, _≤_, _<_}
@@ -11,7 +11,7 @@ use native.Mathlib.Omega.{arith}
 use lib.ListN.{length, getD, set}
 use lib.Seq.{getD-set-same, getD-set-other}
 use Rattle.rules.specs.Seen.{count}
-use Rattle.frames.specs.Circle.{indexOf, frameAt}
+use Rattle.frames.specs.Circle.{frameAt}
 use Rattle.frames.proofs.Circle.{frame-below, index-frame, frame-index}
 use Rattle.pages.specs.Ring.{pageAt, positionOf, Backed, Paged, Rising, Segment, Splits}
 use Rattle.pages.proofs.Counting.{count-names}

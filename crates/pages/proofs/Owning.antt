@@ -1,5 +1,5 @@
 -- Whose a page is, and which is given out next, in the form in which the code has it. Assumes nothing.
-use mathlib.Core.Path.{_≡_, refl, sym, _∙_, ap, ap₂}
+use mathlib.Core.Path.{_≡_, sym, _∙_, ap, ap₂}
 use mathlib.Core.Bool.{Bool, true, false, cond, _&&_}
 use mathlib.Core.List.{List}
 use Prim.Native.Nat.{ℕ, _+_, _%_, _≤_, _<_}
@@ -10,7 +10,6 @@ use lib.Dec.{ltb, eqb}
 use lib.ListN.{getD}
 use Rattle.rules.proofs.Tests.{both-true}
 use Rattle.frames.specs.Circle.{indexOf, frameAt}
-use Rattle.frames.specs.declared.Found.{Found}
 use Rattle.frames.specs.declared.Found.the-variants.{At, Nothing}
 use Rattle.pages.specs.Ring.{pageAt, positionOf, owns, nextPage}
 

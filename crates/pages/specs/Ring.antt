@@ -76,7 +76,13 @@ pub record Leading (n : ℕ) (f : ℕ → ℕ) (limit r : ℕ) : Type 0 where
   pub few : r ≤ n
   pub exact : Rising n f → Splits n f limit r
 
--- What the functions ask of the numbers and the lent length; the store sees to it.
+-- The same by going from one to the next: exact on any numbers.
+pub record Leads (n : ℕ) (f : ℕ → ℕ) (limit r : ℕ) : Type 0 where
+  pub few : r ≤ n
+  pub low : (i : ℕ) → i < r → f i < limit
+  pub stop : r < n → limit ≤ f r
+
+-- What the functions ask of the numbers and the lent length.
 pub record AsksRing (pages first used frames omf long : ℕ) : Type 0 where
   pub first-below : first < pages
   pub used-few : used ≤ pages

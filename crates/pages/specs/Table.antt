@@ -1,6 +1,6 @@
 -- Places of pages, and which of them are needed. Nothing is cleared at a rollback or a reset: an entry of the table whose page has another
--- owner is stale.
-use Prim.Native.Nat.{ℕ, _+_, _*_, _/_, _%_, _≤_, _<_}
+-- owner, or lies outside the segment, is stale.
+use Prim.Native.Nat.{ℕ, _+_, _*_, _/_, _%_, _≤_}
 use mathlib.Core.Path.{_≡_}
 use mathlib.Core.Bool.{Bool, _&&_}
 use mathlib.Core.List.{List}

@@ -20,7 +20,7 @@ pub fn owner_index(ring: Ring, owner: u32) -> u32
     frames::index(frame, ring.omf, ring.frames)
 }
 
-// How many pages, from the oldest on, belong to frames with an index below a limit: by halving.
+// How many pages, from the oldest on, belong to frames with an index below a limit: by halving, exact where the indexes never fall.
 pub fn pages_below(owners: &[u32], ring: Ring, limit: u32) -> u32
     requires { ⌜ AsksRing (ring .pages) (ring .first) (ring .used) (ring .frames) (ring .omf) (length (now owners)) ⌝ }
     ensures { λ r. ⌜ Leading (ring .used) (indexAt (ring .frames) (ring .omf) (ring .pages) (ring .first) (now (owners .entry))) limit r ⌝ }

@@ -30,69 +30,68 @@ use Rattle.rules.proofs.WellSteps.{advance-well}
 use Rattle.frames.specs.Circle.{frameAt}
 use Rattle.frames.specs.Search.{greatest}
 use Rattle.frames.proofs.Search.{greatest-found}
-use Rattle.written.specs.Bits.{writtenOf, effective, newestFrom}
-use Rattle.written.specs.Steps.{cleared, lowered}
+use Rattle.written.specs.Bits.{effective}
+use Rattle.written.specs.Steps.{lowered}
 use Rattle.written.specs.Well.{WellBits}
-use Rattle.written.proofs.Advancing.{advanced-effective, advanced-well}
+use Rattle.written.proofs.Advancing.{Collected, advanced-effective, advanced-well}
 use Rattle.written.proofs.Finding.{version-back}
 use Rattle.pages.specs.Lines.{pageLine, archiveLine}
-use Rattle.pages.specs.Ring.{pageAt, WellRing}
+use Rattle.pages.specs.Ring.{pageAt, indexAt, Splits, WellRing}
 use Rattle.pages.proofs.Keeping.{advanced-ring}
 use Rattle.cache.specs.Steps.{archiveFrame, frameAfter, framesAfter, withOrigins, collected}
 use Rattle.cache.specs.Shown.{shown}
 use Rattle.cache.proofs.Frames.{collected-sized, collected-shown, collected-all}
-use Rattle.versions.specs.Newest.{pageOf, spotOf, contentOf}
-use Rattle.versions.specs.Steps.{folded, AsksFold}
+use Rattle.versions.specs.Newest.{pageOf}
+use Rattle.versions.specs.Steps.{foldedPages, clearedPages}
+use Rattle.versions.proofs.Folding.{index-frame-few}
+use Rattle.versions.proofs.Archived.{PagesFolded, pages-folded}
+use Rattle.versions.proofs.Walking.{folded-line}
+use Rattle.versions.proofs.Cleared.{PagesCleared, pages-cleared, pages-collected}
 use Rattle.storage.specs.declared.Registers.{Registers}
-use Rattle.storage.specs.Storage.{Storage, stateOf, storageOf, memoryOf, settingsIn, registersIn, lengthsIn, pastIn, Recent, Coherent, liveIn, writtenIn, indexBack, frameIn, archiveIn, versionAt, latestIn, frameNumber, newestFrame, WellStore, store}
-use Rattle.storage.specs.Steps.{PagesBelow, advancedRegisters, advancedState, AdvancedTo}
-use Rattle.storage.proofs.Rings.{start-same, used-same, ring-found}
+use Rattle.storage.specs.Storage.{Storage, stateOf, storageOf, memoryOf, startIn, settingsIn, registersIn, lengthsIn, pastIn, Recent, Coherent, liveIn, writtenIn, indexBack, frameIn, archiveIn, versionAt, latestIn, frameNumber, newestFrame, WellStore, store}
+use Rattle.storage.specs.Steps.{FirstPages, advancedRegisters, advancedState, AdvancedTo}
+use Rattle.storage.proofs.Rings.{start-same, start-below, used-same, ring-first}
 use Rattle.storage.proofs.Limits.{Limits, limits, lent-long}
-use Rattle.storage.proofs.Admitting.{Long, room-table}
-use Rattle.storage.proofs.Chains.{FramesRoom, frames-room}
+use Rattle.storage.proofs.Admitting.{Room}
+use Rattle.storage.proofs.Chains.{frames-room}
 use Rattle.storage.proofs.Looking.{admittedIn, turned-down, let-through}
 use Rattle.storage.proofs.Figures.{AlikeAt, frames-alike, frame-at, frame-live, archive-past, well-figure, step-versions, step-archive}
-use Rattle.storage.proofs.Past.{cleared-long, cleared-past, lowered-long, lowered-past}
-use Rattle.storage.proofs.Folds.{Folded, lines-folded}
+use Rattle.storage.proofs.Past.{lowered-long, lowered-past}
 use Rattle.storage.proofs.Numbers.{below-frame, below-archive}
 use Rattle.storage.proofs.Reading.{well-findable, version-content}
 use Rattle.storage.proofs.Rows.{Within, found-within, version-same, split-version, first, first-found}
 
--- What a fold asks, of a state, lent memory and k that are admitted.
-pub fold-asks : (s : rules.Registers) (owners k : ℕ) (archive pool groups table history : List ℕ)
-    → FramesRoom s (record { archive = length archive; pool = length pool; groups = length groups; table = length table; owners = owners; history = length history }) k
-    → AsksFold (writtenOf (s .settings .lines) (s .settings .frames) (s .omf) groups history) (s .settings .pages) k archive pool table
-unfolding elements
-fold-asks s owners k archive pool groups table history g =
-    record {
-      asks = room-table s (length archive) (length pool) owners groups table history (g .room);
-      k-some = g .k-some;
-      k-below = omega (arith, g .k-low, g .live-some, g .live-most);
-      pages-few = g .room .good .pages-to;
-      archive-long = g .room .long .archive;
-      pool-long = g .room .long .pool;
-    }
-
 -- What it leaves, and that it stays within the lent memory.
 module _ (x : Storage) (k gone : ℕ) where
+  abbrev start : ℕ
+  start = startIn (x .state .registers .first) (x .state .registers .pages)
+
   abbrev pub collected-to : Storage
   collected-to =
       storageOf (advancedState (x .state) k gone)
-      (folded (writtenIn x) (x .state .registers .pages) k (x .memory .pool) (x .memory .table) (x .state .registers .lines) (x .memory .archive)) (x .memory .pool)
-      (cleared (x .state .registers .lines) (x .state .registers .frames) (x .state .registers .omf) k (x .memory .groups)) (x .memory .table) (x .memory .owners)
+      (foldedPages (writtenIn x) (x .state .registers .pages) start (x .memory .pool) (x .memory .owners) gone (x .memory .archive)) (x .memory .pool)
+      (clearedPages (x .state .registers .lines) (x .state .registers .pages) start (x .memory .owners) gone (x .memory .groups)) (x .memory .table) (x .memory .owners)
       (lowered k (x .memory .history))
 
-  module _ (long : Long (elements (settingsIn (x .state))) (lengthsIn (x .memory))) where
-    lines-in : Folded (writtenIn x) (x .state .registers .pages) k (x .memory .pool) (x .memory .table) (x .memory .archive) (x .state .registers .lines) (collected-to .memory .archive)
+  module _ (r : Room (registersIn (x .state)) (lengthsIn (x .memory))) (below : k ≤ x .state .registers .frames) (found : FirstPages (x .state .registers) (x .memory .owners) k gone) where
+    folded-in : PagesFolded (writtenIn x) (x .state .registers .pages) start (x .memory .owners) (x .memory .pool) gone (x .memory .archive) (collected-to .memory .archive)
     unfolding elements
-    lines-in = lines-folded (writtenIn x) (x .state .registers .pages) k (x .memory .pool) (x .memory .table) (x .memory .archive) (x .state .registers .lines) (long .pool) (long .archive)
+    folded-in =
+        pages-folded (writtenIn x) (x .state .registers .pages) start (x .memory .owners) (x .memory .pool) gone (x .memory .archive) (r .good .lines-by) (r .long .archive)
+        (start-below (x .state .registers .first) (x .state .registers .pages) (omega (arith, r .good .pages-from))) (r .long .pool)
+
+    cleared-in : PagesCleared (writtenIn x) (r .good .lines-by) (r .good .frames-by) (x .state .registers .pages) start (x .memory .owners) gone (x .memory .groups) (collected-to .memory .groups)
+    unfolding elements indexAt
+    cleared-in =
+        pages-cleared (writtenIn x) (r .good .lines-by) (r .good .frames-by) (x .state .registers .pages) start (x .memory .owners) gone (x .memory .groups)
+        (λ i b. index-frame-few (x .state .registers .frames) (x .state .registers .omf) _ k (found .low i b) below) (r .long .groups)
 
     lengths-kept : lengthsIn (collected-to .memory) ≡ lengthsIn (x .memory)
     lengths-kept = λ i.
         record {
-          archive = lines-in .long i;
+          archive = folded-in .long i;
           pool = length (x .memory .pool);
-          groups = cleared-long (x .state .registers .lines) (x .state .registers .frames) (x .state .registers .omf) k (x .memory .groups) i;
+          groups = cleared-in .long i;
           table = length (x .memory .table);
           owners = length (x .memory .owners);
           history = lowered-long k (x .memory .history) i;
@@ -101,11 +100,10 @@ module _ (x : Storage) (k gone : ℕ) where
     past-kept : pastIn (elements (settingsIn (x .state))) (collected-to .memory) ≡ pastIn (elements (settingsIn (x .state))) (x .memory)
     unfolding elements
     past-kept = λ i.
-        memoryOf (lines-in .past (16 * x .state .registers .lines) (omega arith) i) (drop (128 * x .state .registers .pages) (x .memory .pool))
-        (cleared-past (x .state .registers .lines) (x .state .registers .frames) (x .state .registers .omf) k (x .memory .groups) i) (drop (x .state .registers .frames * (x .state .registers .lines / 8)) (x .memory .table))
-        (drop (x .state .registers .pages) (x .memory .owners)) (lowered-past k (x .memory .history) i)
+        memoryOf (folded-in .past i) (drop (128 * x .state .registers .pages) (x .memory .pool)) (cleared-in .past i)
+        (drop (x .state .registers .frames * (x .state .registers .lines / 8)) (x .memory .table)) (drop (x .state .registers .pages) (x .memory .owners)) (lowered-past k (x .memory .history) i)
 
-module _ (x : Storage) (q : WellStore x) (k gone : ℕ) (some-k : 0 < k) (low : k ≤ liveIn (x .state) - 1) (found : PagesBelow (x .state .registers) (x .memory .owners) k gone) where
+module _ (x : Storage) (q : WellStore x) (k gone : ℕ) (some-k : 0 < k) (low : k ≤ liveIn (x .state) - 1) (found : FirstPages (x .state .registers) (x .memory .owners) k gone) where
   abbrev n : ℕ
   n = liveIn (x .state)
 
@@ -128,8 +126,20 @@ module _ (x : Storage) (q : WellStore x) (k gone : ℕ) (some-k : 0 < k) (low : 
   unfolding advancedState
   live = live-advance (registersIn (x .state)) (lim .fits) k low
 
-  long : Long (elements (settingsIn (x .state))) (lengthsIn (x .memory))
-  long = lent-long x (q .long)
+  room : Room (registersIn (x .state)) (lengthsIn (x .memory))
+  room = record { fits = lim .fits; good = lim .good; long = lent-long x (q .long) }
+
+  parts : Splits (x .state .registers .used) (indexAt (x .state .registers .frames) (x .state .registers .omf) (x .state .registers .pages) (x .state .registers .first) (x .memory .owners)) k gone
+  parts = ring-first x q k gone found
+
+  -- the ring starts where the registers say
+  started : start x k gone ≡ x .state .registers .first
+  started = start-same (x .state .registers .first) (x .state .registers .pages) (q .pages .first-below)
+
+  groups-collected : Collected (writtenIn x) k (new .memory .groups)
+  groups-collected =
+      subst (λ (f : ℕ). Collected (writtenIn x) k (clearedPages (x .state .registers .lines) (x .state .registers .pages) f (x .memory .owners) gone (x .memory .groups))) (sym started)
+      (pages-collected (writtenIn x) (q .bits .lent) (x .state .registers .pages) (x .state .registers .first) (x .state .registers .used) gone k (omega (arith, below)) (x .memory .table) (x .memory .owners) (q .pages) parts (lim .good .lines-by))
 
   -- ---- frames: those that stay have their index less k
   index : (j : ℕ) → j < kept → k + indexBack (new .state) j ≡ indexBack (x .state) j
@@ -149,7 +159,7 @@ module _ (x : Storage) (q : WellStore x) (k gone : ℕ) (some-k : 0 < k) (low : 
   collected-alike j l h b =
       record {
         bit =
-            advanced-effective (writtenIn x) (q .bits .lent) k below (indexBack (new .state) j) l (omega (arith, index j h, lim .live-most)) b
+            advanced-effective (writtenIn x) (q .bits .lent) k below (new .memory .groups) groups-collected (indexBack (new .state) j) l (omega (arith, index j h, lim .live-most)) b
             ∙ (ap (λ (i : ℕ). ltb i (x .state .registers .frames) && effective (writtenIn x) i l) (index j h)
             ∙ ap (λ (t : Bool). t && effective (writtenIn x) (indexBack (x .state) j) l) (lt-ltb (indexBack (x .state) j) (x .state .registers .frames) (omega (arith, lim .live-most))));
         version = λ _. ap (λ (f : ℕ). pageLine (x .memory .pool) (getD (x .memory .table) (f * (x .state .registers .lines / 8) + l / 8) 0) (l % 8)) (frame-on j h);
@@ -181,12 +191,11 @@ module _ (x : Storage) (q : WellStore x) (k gone : ℕ) (some-k : 0 < k) (low : 
         same n low = omega arith
 
     archive-folded : archiveIn new l ≡ versionIn k (λ j. frameIn x (kept + j) l) (archiveIn x l)
-    unfolding archiveIn newestFrom advancedState
+    unfolding archiveIn advancedState elements
     archive-folded =
-        let start : k - 1 + 1 ≡ k = omega arith in
         ap (λ (t : Bool). cond t (archiveLine (new .memory .archive) l) zeros) (lt-ltb l (x .state .registers .lines) b)
-        ∙ (lines-in x k gone long .line l b
-        ∙ (ap (λ (m : ℕ). contentOf (x .memory .archive) (x .memory .pool) l (spotOf (x .state .registers .lines) (x .state .registers .frames) (x .state .registers .omf) (x .state .registers .pages) (x .memory .table) l (greatest m row))) start
+        ∙ (ap (λ (f : ℕ). archiveLine (foldedPages (writtenIn x) (x .state .registers .pages) f (x .memory .pool) (x .memory .owners) gone (x .memory .archive)) l) started
+        ∙ (folded-line (writtenIn x) (q .bits .lent) (x .state .registers .pages) (x .state .registers .first) (x .state .registers .used) gone k (omega (arith, below)) (x .memory .table) (x .memory .owners) (q .pages) parts (lim .good .lines-by) l b (x .memory .pool) (x .memory .archive) (room .long .archive) (room .long .pool)
         ∙ (version-content x (well-findable x q) l b (greatest k row) (λ i e. let g = greatest-found k row i e in (omega (arith, g .below), g .passes))
         ∙ (sym (version-back k row (λ i. versionAt x i l) (archiveIn x l))
         ∙ sym (version-same k (λ j. frameIn x (kept + j) l) (λ j. cond (row (k - 1 - j)) (some (versionAt x (k - 1 - j) l)) none) (archiveIn x l) oldest)))))
@@ -256,19 +265,19 @@ module _ (x : Storage) (q : WellStore x) (k gone : ℕ) (some-k : 0 < k) (low : 
   collected-pages =
       subst
       (λ (f : ℕ). WellRing (writtenIn new) (x .state .registers .pages) (pageAt (x .state .registers .pages) f gone) (new .state .registers .used) (x .memory .table) (x .memory .owners))
-      (sym (start-same (x .state .registers .first) (x .state .registers .pages) (q .pages .first-below)))
+      (sym started)
       (subst
       (λ (u : ℕ). WellRing (writtenIn new) (x .state .registers .pages) (pageAt (x .state .registers .pages) (x .state .registers .first) gone) (u - gone) (x .memory .table) (x .memory .owners))
       (sym (used-same (x .state .registers .used) (x .state .registers .pages) (q .pages .used-few)))
-      (advanced-ring (writtenIn x) (q .bits .lent) k below (x .state .registers .pages) (x .state .registers .first) (x .state .registers .used) gone (x .memory .table) (x .memory .owners) (q .pages) (ring-found x q k gone found)))
+      (advanced-ring (writtenIn x) (q .bits .lent) k below (new .memory .groups) groups-collected (x .state .registers .pages) (x .state .registers .first) (x .state .registers .used) gone (x .memory .table) (x .memory .owners) (q .pages) parts))
 
   collected-store : WellStore new
   unfolding advancedState frameAt
   collected-store =
       record {
         fits = facts-fit _ (record { limits = lim .fits .limits; cmf-below = lim .fits .cmf-below; omf-below = mod-lt _ (omega (arith, below)) });
-        long = subst (λ (p : Pieces). enough (settingsIn (x .state)) p ≡ true) (sym (lengths-kept x k gone long)) (q .long);
-        bits = subst (λ (m : ℕ). WellBits (writtenIn new) (x .state .registers .tag) m) (sym live) (advanced-well (writtenIn x) (q .bits .lent) k below (x .state .registers .tag) n (q .bits));
+        long = subst (λ (p : Pieces). enough (settingsIn (x .state)) p ≡ true) (sym (lengths-kept x k gone room (omega (arith, below)) found)) (q .long);
+        bits = subst (λ (m : ℕ). WellBits (writtenIn new) (x .state .registers .tag) m) (sym live) (advanced-well (writtenIn x) (q .bits .lent) k below (new .memory .groups) groups-collected (x .state .registers .tag) n (q .bits));
         pages = collected-pages;
         sized = collected-sized (x .state .cache) (q .sized) (x .state .registers .omf) (x .state .registers .frames) k;
         version-line = step-versions new _ _ collected-figure next-well;
@@ -293,12 +302,13 @@ module _ (x : Storage) (k a : ℕ) (told : a ≡ admittedIn x (markedRefusal (li
   unfolding refusal actRefusal factsBy refused
   advance-refused z = turned-down x (ON (CHANGE (ADVANCE k))) a told z
 
-  module _ (gone : ℕ) (found : PagesBelow (x .state .registers) (x .memory .owners) k gone) where
+  module _ (gone : ℕ) (found : FirstPages (x .state .registers) (x .memory .owners) k gone) where
     promised : a ≡ 0 → Promise store (ON (CHANGE (ADVANCE k))) x (outcome 0) (collected-to x k gone)
     unfolding refusal actRefusal factsBy refused registersStep settingsFor advancedState
     promised z =
         let g = frames-room (registersIn (x .state)) (lengthsIn (x .memory)) a k told z in
-        let-through x (ON (CHANGE (ADVANCE k))) a told z refl (record { registers = refl; followed = λ q. advanced-followed x q k gone (g .k-some) (g .k-low) found }) (lengths-kept x k gone (g .room .long)) (past-kept x k gone (g .room .long))
+        let few : k ≤ x .state .registers .frames = omega (arith, g .k-low, g .live-most) in
+        let-through x (ON (CHANGE (ADVANCE k))) a told z refl (record { registers = refl; followed = λ q. advanced-followed x q k gone (g .k-some) (g .k-low) found }) (lengths-kept x k gone (g .room) few found) (past-kept x k gone (g .room) few found)
 
     -- in the form in which the code has the lists, the registers and the cache's frames
     pub advance-collects : a ≡ 0 → (archive groups history : List ℕ) → archive ≡ collected-to x k gone .memory .archive
@@ -307,7 +317,7 @@ module _ (x : Storage) (k a : ℕ) (told : a ≡ admittedIn x (markedRefusal (li
         → origins ≡ framesAfter (x .state .registers .omf) (x .state .registers .frames) k (x .state .cache .frames)
         → Promise store (ON (CHANGE (ADVANCE k))) x (outcome 0)
         (storageOf (stateOf t (withOrigins (x .state .cache) origins)) archive (x .memory .pool) groups (x .memory .table) (x .memory .owners) history)
-        × AdvancedTo (x .state) (x .memory .archive) (x .memory .pool) (x .memory .groups) (x .memory .table) (x .memory .owners) (x .memory .history) k
+        × AdvancedTo (x .state) (x .memory .archive) (x .memory .pool) (x .memory .groups) (x .memory .owners) (x .memory .history) k
         (stateOf t (withOrigins (x .state .cache) origins)) archive groups history
     unfolding advancedState collected
     advance-collects z archive groups history ea eg eh t origins e frames =

@@ -15,7 +15,6 @@ pub mod Checking
 pub mod Starting
 pub mod Marking
 pub mod Rolling
-pub mod Folds
 pub mod Collecting
 pub mod Choosing
 pub mod Writing

@@ -12,7 +12,7 @@ use lib.Seq.{ext-getD, getD-drop}
 use Rattle.frames.proofs.Lists.{drop-set, rewrite-drop, rewrite-length}
 use Rattle.written.specs.Bits.{Written, writtenOf, Lent}
 use Rattle.written.proofs.Rolling.{group-place}
-use Rattle.written.specs.Steps.{RolledBack, swept, nextTag, cleared, lowered, withWritten}
+use Rattle.written.specs.Steps.{RolledBack, swept, nextTag, lowered, withWritten}
 
 -- The same of a list is true of what is left of it behind an element, if it is true of each element there.
 drop-alike : (n : ℕ) (xs ys : List ℕ) → length xs ≡ length ys → ((i : ℕ) → n ≤ i → getD xs i 0 ≡ getD ys i 0) → drop n xs ≡ drop n ys
@@ -54,16 +54,7 @@ module _ (w : Written) (tag kept : ℕ) (groups history : List ℕ) (next : ℕ)
       ap (drop 256) (r .history-is)
       ∙ (drop-set (r .entry) next 256 65535 next-small ∙ drop-alike 256 (r .entry) (w .history) (r .enters .long) (λ i h. r .enters .past i (omega arith)))
 
--- ADVANCE; the archive's part is in Folds
-module _ (lines frames omf k : ℕ) (groups : List ℕ) where
-  pub cleared-long : length (cleared lines frames omf k groups) ≡ length groups
-  unfolding cleared
-  cleared-long = rewrite-length _ groups (frames / 16 * lines)
-
-  pub cleared-past : drop (frames / 16 * lines) (cleared lines frames omf k groups) ≡ drop (frames / 16 * lines) groups
-  unfolding cleared
-  cleared-past = rewrite-drop _ groups (frames / 16 * lines) (frames / 16 * lines) (omega arith)
-
+-- ADVANCE: the history
 module _ (k : ℕ) (history : List ℕ) where
   pub lowered-long : length (lowered k history) ≡ length history
   unfolding lowered

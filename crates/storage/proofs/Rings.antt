@@ -6,10 +6,11 @@ use native.Mathlib.Decide.{decLt}
 use native.Mathlib.Omega.{arith}
 use borrow.Author.Tests.{lt-ltb, le-ltb}
 use Rattle.pages.specs.declared.Ring.{Ring}
-use Rattle.pages.specs.Ring.{Leading, indexAt}
+use Rattle.pages.specs.Ring.{Leading, Leads, Splits, indexAt}
+use Rattle.pages.proofs.Halving.{leads-splits}
 use Rattle.storage.specs.Storage.{Storage, startIn, ringAt, WellStore}
 use Rattle.storage.specs.declared.Registers.{Registers}
-use Rattle.storage.specs.Steps.{PagesBelow}
+use Rattle.storage.specs.Steps.{PagesBelow, FirstPages}
 
 pub start-same : (first pages : ℕ) → first < pages → startIn first pages ≡ first
 unfolding startIn
@@ -42,3 +43,15 @@ ring-found x q limit n h =
     (start-same (x .state .registers .first) (x .state .registers .pages) (q .pages .first-below))
     (subst (λ (u : ℕ). Leading u (indexAt (x .state .registers .frames) (x .state .registers .omf) (x .state .registers .pages) (startIn (x .state .registers .first) (x .state .registers .pages)) (x .memory .owners)) limit n)
     (used-same (x .state .registers .used) (x .state .registers .pages) (q .pages .used-few)) h)
+
+-- The pages of the k oldest frames, by the registers themselves.
+pub ring-first : (x : Storage) → WellStore x → (k n : ℕ) → FirstPages (x .state .registers) (x .memory .owners) k n
+    → Splits (x .state .registers .used) (indexAt (x .state .registers .frames) (x .state .registers .omf) (x .state .registers .pages) (x .state .registers .first) (x .memory .owners)) k n
+unfolding indexAt
+ring-first x q k n h =
+    leads-splits _ _ k n
+    (subst (λ (f : ℕ). Leads (x .state .registers .used) (indexAt (x .state .registers .frames) (x .state .registers .omf) (x .state .registers .pages) f (x .memory .owners)) k n)
+    (start-same (x .state .registers .first) (x .state .registers .pages) (q .pages .first-below))
+    (subst (λ (u : ℕ). Leads u (indexAt (x .state .registers .frames) (x .state .registers .omf) (x .state .registers .pages) (startIn (x .state .registers .first) (x .state .registers .pages)) (x .memory .owners)) k n)
+    (used-same (x .state .registers .used) (x .state .registers .pages) (q .pages .used-few)) h))
+    (q .pages .rising)

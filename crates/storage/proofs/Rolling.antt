@@ -10,7 +10,7 @@ use native.Mathlib.Decide.{decLt}
 use native.Mathlib.Omega.{arith}
 use borrow.Author.Tests.{lt-ltb, le-ltb}
 use lib.Dec.{ltb}
-use lib.ListN.{length, getD, drop}
+use lib.ListN.{length, drop}
 use Rattle.rules.specs.Settings.{Pieces, elements, enough}
 use Rattle.rules.specs.Line.{Line}
 use Rattle.rules.specs.Call.{Place, refused}
@@ -32,7 +32,7 @@ use Rattle.written.specs.Bits.{effective}
 use Rattle.written.specs.Steps.{RolledBack}
 use Rattle.written.specs.Well.{WellBits}
 use Rattle.written.proofs.Rolling.{rolled-effective, rolled-well}
-use Rattle.pages.specs.Ring.{WellRing, Leading, indexAt}
+use Rattle.pages.specs.Ring.{WellRing}
 use Rattle.pages.proofs.Keeping.{rolled-ring}
 use Rattle.cache.specs.Entries.{lineOf}
 use Rattle.cache.specs.Steps.{isDropped, flagsAfter, withFlags, forgotten}

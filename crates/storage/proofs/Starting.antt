@@ -9,7 +9,7 @@ use native.Mathlib.Decide.{decLt}
 use native.Mathlib.Omega.{arith}
 use borrow.Author.Tests.{lt-ltb, le-ltb}
 use lib.Dec.{ltb}
-use lib.ListN.{length, getD, set, drop, take, length-set, length-take, length-drop, replicate, getD-replicate}
+use lib.ListN.{length, set, drop, take, length-set, length-take, length-drop, replicate, getD-replicate}
 use lib.Seq.{ext-getD, getD-take, getD-drop}
 use Rattle.rules.specs.Settings.{Settings, Pieces, within, elements, enough}
 use Rattle.rules.specs.Sizing.{settingsOf}

@@ -52,7 +52,7 @@ abbrev pub Advances : Storage → (k refusal : ℕ) → Storage → Type 0
 Advances x k r t =
     Promise store (ON (CHANGE (ADVANCE k))) x (outcome r) t
     × (r ≡ 0
-    → AdvancedTo (x .state) (x .memory .archive) (x .memory .pool) (x .memory .groups) (x .memory .table) (x .memory .owners) (x .memory .history) k (t .state)
+    → AdvancedTo (x .state) (x .memory .archive) (x .memory .pool) (x .memory .groups) (x .memory .owners) (x .memory .history) k (t .state)
     (t .memory .archive) (t .memory .groups) (t .memory .history))
 
 -- The same of the calls that do not look at the cache, or only at a part of it: whatever the rest holds, which stays. LINE, its companion

@@ -7,12 +7,12 @@ use lib.ListN.{length, getD, set}
 use Rattle.rules.specs.Line.{Line, edit, lineOf, offsetOf}
 use Rattle.frames.specs.Circle.{frameAt}
 use Rattle.written.specs.Bits.{writtenOf}
-use Rattle.written.specs.Steps.{RolledBack, withWritten, blanked, cleared, lowered}
+use Rattle.written.specs.Steps.{RolledBack, withWritten, blanked, lowered}
 use Rattle.pages.specs.Lines.{withPageLine, AsksBytes}
 use Rattle.pages.specs.Table.{placeAt, neededAt}
-use Rattle.pages.specs.Ring.{pageAt, indexAt, Leading}
+use Rattle.pages.specs.Ring.{pageAt, indexAt, Leading, Leads}
 use Rattle.versions.specs.Newest.{entryAt, latestOf, AsksNewest}
-use Rattle.versions.specs.Steps.{zeroed, folded, AsksPut}
+use Rattle.versions.specs.Steps.{zeroed, foldedPages, clearedPages, AsksPut}
 use Rattle.cache.specs.declared.Cache.{Cache}
 use Rattle.cache.specs.Steps.{emptied, placed, forgotten, collected}
 use Rattle.storage.specs.declared.Registers.{Registers}
@@ -47,7 +47,7 @@ markedRegisters r = registersWith r ((r .cmf + 1) % r .frames) (r .omf) (r .tag)
 unfoldable pub markedState : State → State
 markedState s = stateOf (markedRegisters (s .registers)) (s .cache)
 
--- The pages of the frames with an index below a limit come first, on a ring; how many they are.
+-- On a ring the pages of the frames with an index below a limit come first; how many they are, exact where the owners' indexes never fall.
 abbrev pub PagesBelow : Registers → (owners : List ℕ) → (limit n : ℕ) → Type 0
 PagesBelow r owners limit n = Leading (ringAt r .used) (indexAt (r .frames) (r .omf) (r .pages) (ringAt r .first) owners) limit n
 
@@ -68,6 +68,10 @@ pub record RolledTo (s : State) (groups owners history : List ℕ) (k : ℕ) (t 
       RolledBack (writtenOf (s .registers .lines) (s .registers .frames) (s .registers .omf) groups history) (s .registers .tag % 256) (liveIn s - k)
       groups-after history-after (t .registers .tag)
 
+-- The ring's first pages up to one of a frame with an index from k on, on any storage; on a ring they are those of the k oldest frames.
+abbrev pub FirstPages : Registers → (owners : List ℕ) → (k n : ℕ) → Type 0
+FirstPages r owners k n = Leads (ringAt r .used) (indexAt (r .frames) (r .omf) (r .pages) (ringAt r .first) owners) k n
+
 -- ADVANCE(k): the k oldest frames are free, and entries of their lines "count as archive".
 -- The ring starts behind the pages that are free.
 abbrev pub advancedRegisters : Registers → (k gone : ℕ) → Registers
@@ -78,16 +82,16 @@ unfoldable pub advancedState : State → (k gone : ℕ) → State
 advancedState s k gone =
     stateOf (advancedRegisters (s .registers) k gone) (collected (s .cache) (s .registers .omf) (s .registers .frames) k)
 
--- What it leaves in all: the state, the archive with the versions of the k oldest frames, and the groups and the history that go with it.
-pub record AdvancedTo (s : State) (archive pool groups table owners history : List ℕ) (k : ℕ) (t : State) (archive-after groups-after history-after : List ℕ) : Type 0 where
+-- What it leaves in all: the state, the archive with the versions that these pages have, the groups without their bits, and the history.
+pub record AdvancedTo (s : State) (archive pool groups owners history : List ℕ) (k : ℕ) (t : State) (archive-after groups-after history-after : List ℕ) : Type 0 where
   pub gone : ℕ
-  pub pages : PagesBelow (s .registers) owners k gone
+  pub pages : FirstPages (s .registers) owners k gone
   pub state : t ≡ advancedState s k gone
   pub archive-is :
       archive-after
-      ≡ folded (writtenOf (s .registers .lines) (s .registers .frames) (s .registers .omf) groups history) (s .registers .pages) k pool table (s .registers .lines)
-      archive
-  pub groups-is : groups-after ≡ cleared (s .registers .lines) (s .registers .frames) (s .registers .omf) k groups
+      ≡ foldedPages (writtenOf (s .registers .lines) (s .registers .frames) (s .registers .omf) groups history) (s .registers .pages) (ringAt (s .registers) .first) pool owners
+      gone archive
+  pub groups-is : groups-after ≡ clearedPages (s .registers .lines) (s .registers .pages) (ringAt (s .registers) .first) owners gone groups
   pub history-is : history-after ≡ lowered k history
 
 -- READ and WRITE: the cache after a use, and after a WRITE the pages in use.

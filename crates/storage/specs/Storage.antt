@@ -79,7 +79,7 @@ liveIn s = liveAt (s .registers)
 abbrev pub writtenIn : Storage → Written
 writtenIn x = writtenOf (x .state .registers .lines) (x .state .registers .frames) (x .state .registers .omf) (x .memory .groups) (x .memory .history)
 
--- The ring of pages that the calls see: a start past the pool counts as 0, and more pages than there are count as all.
+-- The ring of pages that the calls but CHECK see: a start past the pool counts as 0, and more pages than there are count as all.
 unfoldable pub startIn : (first pages : ℕ) → ℕ
 startIn first pages = cond (ltb first pages) first 0
 

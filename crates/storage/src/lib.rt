@@ -85,7 +85,7 @@ fn start(first: u32, pages: u32) -> u32
     if first < pages { first } else { 0 }
 }
 
-// The ring that the calls see; more pages than there are count as all.
+// The ring that the calls but CHECK see; more pages than there are count as all.
 pub fn ring(registers: Registers) -> Ring
     ensures { λ r. ⌜ r ≡ ringAt registers ⌝ }
 {

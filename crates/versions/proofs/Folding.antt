@@ -1,126 +1,199 @@
--- The archive while versions are folded into it. Assumes nothing.
-use mathlib.Core.Path.{_≡_, refl, sym, _∙_, ap, ap₂}
-use mathlib.Core.Bool.{Bool, true, false, not, Bool·not-not}
+-- Pages folded into the archive one after the other, and their bits cleared, in the form in which the loops have it. Assumes nothing.
+use mathlib.Core.Path.{_≡_, refl, sym, _∙_, ap}
+use mathlib.Core.Bool.{Bool, true, false, cond, not}
 use mathlib.Core.List.{List}
-use Prim.Native.Nat.{ℕ, zero, suc, _+_, _-_, _*_, _%_, _≤_, _<_}
-use native.Mathlib.Nat.{zero-add, add-zero, add-suc, add-assoc}
+use Prim.Native.Nat.{ℕ, _+_, _*_, _/_, _%_, _≤_, _<_}
 use native.Mathlib.Numerals.{add-one}
+use native.Mathlib.Decide.{ℕ-discrete}
 use native.Mathlib.Omega.{arith}
-use lib.ListN.{length}
+use borrow.Author.Tests.{lt-ltb, le-ltb, not-true, not-false}
+use lib.ListN.{length, getD}
 use Rattle.rules.specs.Line.{Line}
-use Rattle.frames.specs.declared.Found.{Found}
-use Rattle.frames.specs.declared.Found.the-variants.{Nothing}
-use Rattle.written.specs.Bits.{Written, writtenOf, newestFrom, spanBlank}
-use Rattle.written.proofs.Blanks.{blank-nothing}
+use Rattle.frames.specs.Circle.{frameAt}
+use Rattle.frames.proofs.Circle.{frame-below}
+use Rattle.written.specs.Bits.{Written, effective, placeOf, AsksSet}
+use Rattle.written.specs.Steps.{clearedBlock}
+use Rattle.written.proofs.Areas.{place-below, area-below}
 use Rattle.pages.specs.Lines.{pageLine, withArchiveLine}
-use Rattle.versions.specs.declared.Spot.{Spot}
-use Rattle.versions.specs.declared.Spot.the-variants.{Page, Archive}
-use Rattle.versions.specs.Newest.{spotOf, AsksContent}
-use Rattle.versions.specs.Steps.{foldedLine, folded, foldedFrom, AsksFold}
-use Rattle.versions.proofs.Finding.{content-asks}
+use Rattle.pages.specs.Table.{blocksOf}
+use Rattle.pages.specs.Ring.{pageAt, ownerIndex, indexAt, Leads}
+use Rattle.pages.proofs.Halving.{index-high}
+use Rattle.versions.specs.Steps.{foldedLine, foldedLines, foldedPage, foldedPages, clearedPage, clearedPages, AsksCopy, AsksFold, AsksGone}
 
--- ---- one line
-module _ (archive pool : List ℕ) (line : ℕ) (spot : Spot) where
-  pub line-folded : (p : ℕ) (x : Line) (now : List ℕ) → spot ≡ Page p → x ≡ pageLine pool p (line % 8) → now ≡ withArchiveLine archive line x
-      → now ≡ foldedLine archive pool line spot
+-- ---- the lines of a page
+module _ (w : Written) (pool : List ℕ) (page index l : ℕ) (archive : List ℕ) (r : Bool) (e : r ≡ effective w index l) where
+  pub line-copied : not r ≡ false → (x : Line) (after : List ℕ) → x ≡ pageLine pool page (l % 8) → after ≡ withArchiveLine archive l x → after ≡ foldedLine w pool page index l archive
   unfolding foldedLine
-  line-folded p x now e h t = t ∙ (ap (withArchiveLine archive line) h ∙ ap (foldedLine archive pool line) (sym e))
+  line-copied t x after ex a =
+      a ∙ (ap (withArchiveLine archive l) ex ∙ sym (ap (λ (u : Bool). cond u (withArchiveLine archive l (pageLine pool page (l % 8))) archive) (sym e ∙ not-false r t)))
 
-  pub line-stays : spot ≡ Archive → archive ≡ foldedLine archive pool line spot
+  pub line-passed : not r ≡ true → archive ≡ foldedLine w pool page index l archive
   unfolding foldedLine
-  line-stays e = ap (foldedLine archive pool line) (sym e)
+  line-passed t = sym (ap (λ (u : Bool). cond u (withArchiveLine archive l (pageLine pool page (l % 8))) archive) (sym e ∙ not-true r t))
 
--- ---- lines after lines
--- The archive of a loop over so many lines from one on, with n of them folded.
-pub record Folding (w : Written) (pages k : ℕ) (pool table archive : List ℕ) (first count n : ℕ) (now : List ℕ) : Type 0 where
-  pub few : n ≤ count
-  pub long : length now ≡ length archive
-  pub same : now ≡ foldedFrom w pages k pool table first n archive
+module _ (w : Written) (pool : List ℕ) (page index block : ℕ) (archive : List ℕ) where
+  pub record Lines (n : ℕ) (now : List ℕ) : Type 0 where
+    pub few : n ≤ 8
+    pub long : length now ≡ length archive
+    pub same : now ≡ foldedLines w pool page index block n archive
 
-module _ (w : Written) (pages k : ℕ) (pool table archive : List ℕ) (first count : ℕ) where
-  pub folding-start : Folding w pages k pool table archive first count 0 archive
-  unfolding foldedFrom
-  folding-start = record { few = omega arith; long = refl; same = refl }
+  pub lines-start : Lines 0 archive
+  unfolding foldedLines
+  lines-start = record { few = omega arith; long = refl; same = refl }
 
-  pub folding-next : (n : ℕ) (now after : List ℕ) (r : Found) (spot : Spot) → Folding w pages k pool table archive first count n now → n < count
-      → r ≡ newestFrom w (first + n) (k - 1) → spot ≡ spotOf (w .lines) (w .frames) (w .omf) pages table (first + n) r
-      → length after ≡ length now → after ≡ foldedLine now pool (first + n) spot → Folding w pages k pool table archive first count (n + 1) after
-  unfolding foldedFrom
-  folding-next n now after r spot h b found at long e =
+  pub lines-next : (n : ℕ) (now : List ℕ) → Lines n now → n < 8 → (after : List ℕ) → length after ≡ length now → after ≡ foldedLine w pool page index (block * 8 + n) now → Lines (n + 1) after
+  unfolding foldedLines
+  lines-next n now h b after long e =
       record {
         few = omega arith;
         long = long ∙ h .long;
         same =
             e
-            ∙ (ap₂ (λ (xs : List ℕ) (s : Spot). foldedLine xs pool (first + n) s) (h .same)
-            (at ∙ ap (spotOf (w .lines) (w .frames) (w .omf) pages table (first + n)) found)
-            ∙ ap (λ (m : ℕ). foldedFrom w pages k pool table first m archive) (sym (add-one n)));
+            ∙ (ap (foldedLine w pool page index (block * 8 + n)) (h .same) ∙ ap (λ (k : ℕ). foldedLines w pool page index block k archive) (sym (add-one n)));
       }
 
-  pub folding-end : (n : ℕ) (now : List ℕ) → Folding w pages k pool table archive first count n now → count ≤ n
-      → now ≡ foldedFrom w pages k pool table first count archive
-  folding-end n now h b =
-      let e : n ≡ count = omega (arith, h .few) in
-      h .same ∙ ap (λ (m : ℕ). foldedFrom w pages k pool table first m archive) e
-
-  -- lines after those before them
-  from-more : (n m : ℕ) → foldedFrom w pages k pool table (first + n) m (foldedFrom w pages k pool table first n archive) ≡ foldedFrom w pages k pool table first (n + m) archive
-  unfolding foldedFrom
-  from-more n zero = ap (λ (z : ℕ). foldedFrom w pages k pool table first z archive) (sym (add-zero n))
-  from-more n (suc m) =
-      ap₂ (λ (xs : List ℕ) (l : ℕ). foldedLine xs pool l (spotOf (w .lines) (w .frames) (w .omf) pages table l (newestFrom w l (k - 1)))) (from-more n m) (add-assoc first n m)
-      ∙ ap (λ (z : ℕ). foldedFrom w pages k pool table first z archive) (sym (add-suc n m))
-
--- lines without a version among the frames stay
-from-none : (w : Written) (pages k : ℕ) (pool table archive : List ℕ) (first n : ℕ) → ((m : ℕ) → m < n → newestFrom w (first + m) (k - 1) ≡ Nothing)
-    → archive ≡ foldedFrom w pages k pool table first n archive
-unfolding foldedFrom spotOf
-from-none w pages k pool table archive first zero h = refl
-from-none w pages k pool table archive first (suc n) h =
-    from-none w pages k pool table archive first n (λ m b. h m (omega arith))
-    ∙ line-stays (foldedFrom w pages k pool table first n archive) pool (first + n) _
-    (ap (spotOf (w .lines) (w .frames) (w .omf) pages table (first + n)) (h n (omega arith)))
-
--- The lines from one on, which is the first of the loop or a later one, as many as a turn takes.
-module _ (w : Written) (pages k : ℕ) (pool table archive : List ℕ) (first count n : ℕ) (now : List ℕ)
-    (h : Folding w pages k pool table archive first count n now) (line m next : ℕ) (el : line ≡ first + n) (en : next ≡ n + m) (b : next ≤ count) where
-  pub folding-more : (after : List ℕ) → length after ≡ length now → after ≡ foldedFrom w pages k pool table line m now
-      → Folding w pages k pool table archive first count next after
-  folding-more after long e =
+  pub lines-ask : (pages long n : ℕ) (now : List ℕ) → AsksCopy w pages page index (length archive) long → Lines n now → AsksCopy w pages page index (length now) long
+  lines-ask pages long n now ask h =
       record {
-        few = b;
-        long = long ∙ h .long;
-        same =
-            e
-            ∙ (ap₂ (λ (l : ℕ) (xs : List ℕ). foldedFrom w pages k pool table l m xs) el (h .same)
-            ∙ (from-more w pages k pool table archive first count n m ∙ ap (λ (z : ℕ). foldedFrom w pages k pool table first z archive) (sym en)));
+        lent = ask .lent;
+        lines-by = ask .lines-by;
+        page-below = ask .page-below;
+        pages-few = ask .pages-few;
+        index-below = ask .index-below;
+        archive-long = omega (arith, ask .archive-long, h .long);
+        pool-long = ask .pool-long;
       }
 
-  -- blank ones are passed over
-  pub folding-skip : (after : List ℕ) (r : Bool) → 0 < k → r ≡ spanBlank (w .lines) (w .frames) (w .omf) (w .groups) line m k → not r ≡ false
-      → after ≡ now → Folding w pages k pool table archive first count next after
-  folding-skip after r some e t same =
-      let blank : spanBlank (w .lines) (w .frames) (w .omf) (w .groups) line m k ≡ true = sym e ∙ (sym (Bool·not-not r) ∙ ap not t) in
-      folding-more after (ap length same)
-      (same ∙ from-none w pages k pool table now line m (λ j c. blank-nothing w line m k blank j (k - 1) c (omega arith)))
+  pub lines-end : (n : ℕ) (now : List ℕ) → Lines n now → 8 ≤ n → block < blocksOf w → now ≡ foldedPage w pool page index block archive
+  unfolding foldedPage
+  lines-end n now h b c =
+      let all : n ≡ 8 = omega (arith, h .few) in
+      h .same
+      ∙ (ap (λ (k : ℕ). foldedLines w pool page index block k archive) all
+      ∙ sym (ap (λ (t : Bool). cond t (foldedLines w pool page index block 8 archive) archive) (lt-ltb block (blocksOf w) c)))
 
--- The lines from the first on are the first lines.
-from-first : (w : Written) (pages k : ℕ) (pool table archive : List ℕ) (n : ℕ) → foldedFrom w pages k pool table 0 n archive ≡ folded w pages k pool table n archive
-unfolding foldedFrom folded
-from-first w pages k pool table archive zero = refl
-from-first w pages k pool table archive (suc n) =
-    ap₂ (λ (xs : List ℕ) (l : ℕ). foldedLine xs pool l (spotOf (w .lines) (w .frames) (w .omf) pages table l (newestFrom w l (k - 1))))
-    (from-first w pages k pool table archive n) (zero-add n)
+  pub lines-none : blocksOf w ≤ block → archive ≡ foldedPage w pool page index block archive
+  unfolding foldedPage
+  lines-none c = sym (ap (λ (t : Bool). cond t (foldedLines w pool page index block 8 archive) archive) (le-ltb block (blocksOf w) c))
 
-pub folding-all : (w : Written) (pages k : ℕ) (pool table archive : List ℕ) (n : ℕ) (now : List ℕ) → Folding w pages k pool table archive 0 (w .lines) n now
-    → w .lines ≤ n → now ≡ folded w pages k pool table (w .lines) archive
-folding-all w pages k pool table archive n now h b =
-    folding-end w pages k pool table archive 0 (w .lines) n now h b ∙ from-first w pages k pool table archive (w .lines)
+-- ---- the pages of the ring
+pub page-owned : (pages first n page long : ℕ) → first < pages → pages ≤ long → page ≡ frameAt pages first n → page < long
+page-owned pages first n page long b o at = omega (arith, at, frame-below pages first b n)
 
--- what is asked to fold a line, in the form in which the code has it
-pub line-content : (lines frames omf pages k : ℕ) (groups history archive pool table : List ℕ) (block n : ℕ) (r : Found) (now : List ℕ) (spot : Spot)
-    → AsksFold (writtenOf lines frames omf groups history) pages k archive pool table × (block * 8 + 8 ≤ lines) → n < 8
-    → Folding (writtenOf lines frames omf groups history) pages k pool table archive (block * 8) 8 n now
-    → spot ≡ spotOf lines frames omf pages table (block * 8 + n) r → AsksContent lines pages (block * 8 + n) spot (length now) (length pool)
-line-content lines frames omf pages k groups history archive pool table block n r now spot a b h at =
-    content-asks _ _ _ _ _ _ _ _ (a .0 .asks) (omega (arith, a .1)) (a .0 .pages-few) (omega (arith, h .long, a .0 .archive-long)) (a .0 .pool-long) at
+module _ (w : Written) (pages first used : ℕ) (pool owners archive : List ℕ) (k : ℕ) where
+  abbrev indexes : ℕ → ℕ
+  indexes = indexAt (w .frames) (w .omf) pages first owners
+
+  pub record Pages (n : ℕ) (now : List ℕ) : Type 0 where
+    pub few : n ≤ used
+    pub long : length now ≡ length archive
+    pub low : (i : ℕ) → i < n → indexes i < k
+    pub same : now ≡ foldedPages w pages first pool owners n archive
+
+  pub pages-start : Pages 0 archive
+  unfolding foldedPages
+  pages-start = record { few = omega arith; long = refl; low = λ i b. absurd (omega arith); same = refl }
+
+  module _ (n : ℕ) (now : List ℕ) (h : Pages n now) (b : n < used) (page owner index : ℕ) (at : page ≡ frameAt pages first n) (own : owner ≡ getD owners page 0)
+      (is : index ≡ ownerIndex (w .frames) (w .omf) owner) where
+    owner-is : owner ≡ getD owners (pageAt pages first n) 0
+    owner-is = own ∙ ap (λ (q : ℕ). getD owners q 0) at
+
+    index-is : index ≡ indexes n
+    unfolding indexAt
+    index-is = is ∙ ap (ownerIndex (w .frames) (w .omf)) owner-is
+
+    pub pages-ask : (long : ℕ) → AsksFold w pages first used (length archive) long (length owners) → index < w .frames → AsksCopy w pages page index (length now) long
+    pages-ask long ask l =
+        record {
+          lent = ask .lent;
+          lines-by = ask .lines-by;
+          page-below = omega (arith, at, frame-below pages first (ask .ring .first-below) n);
+          pages-few = ask .ring .pages-few;
+          index-below = l;
+          archive-long = omega (arith, ask .archive-long, h .long);
+          pool-long = ask .pool-long;
+        }
+
+    pub pages-stop : k ≤ index → Leads used indexes k n × (now ≡ foldedPages w pages first pool owners n archive)
+    pages-stop l = (record { few = h .few; low = h .low; stop = λ c. omega (arith, index-is, l) }, h .same)
+
+    pub pages-next : index < k → (after : List ℕ) → length after ≡ length now → after ≡ foldedPage w pool page index (owner % 512) now → Pages (n + 1) after
+    unfolding foldedPages
+    pages-next l after long e =
+        record {
+          few = omega arith;
+          long = long ∙ h .long;
+          low = λ i c. low i c (ℕ-discrete i n);
+          same =
+              e
+              ∙ ((λ j. foldedPage w pool (at j) ((is ∙ ap (ownerIndex (w .frames) (w .omf)) owner-is) j) (owner-is j % 512) (h .same j))
+              ∙ ap (λ (m : ℕ). foldedPages w pages first pool owners m archive) (sym (add-one n)));
+        }
+      where
+        low : (i : ℕ) → i < n + 1 → Dec (i ≡ n) → indexes i < k
+        low i c (yes z) = omega (arith, ap indexes z, index-is)
+        low i c (no z) = h .low i (omega arith)
+
+  pub pages-end : (n : ℕ) (now : List ℕ) → Pages n now → used ≤ n → Leads used indexes k n × (now ≡ foldedPages w pages first pool owners n archive)
+  pages-end n now h b = (record { few = h .few; low = h .low; stop = λ c. absurd (omega arith) }, h .same)
+
+-- an index below F is that of a frame
+pub index-frame-few : (frames omf owner k : ℕ) → ownerIndex frames omf owner < k → k ≤ frames → owner / 512 < frames
+index-frame-few frames omf owner k b few = go (native.Mathlib.Decide.decLt (owner / 512) frames)
+  where
+    go : Dec (owner / 512 < frames) → owner / 512 < frames
+    go (yes h) = h
+    go (no h) = absurd (omega (arith, index-high frames omf owner (omega arith)))
+
+-- ---- their bits
+module _ (lines owner : ℕ) (groups : List ℕ) where
+  pub cleared-told : (after : List ℕ) → owner % 512 < lines / 8 → after ≡ clearedBlock lines (owner / 512) (owner % 512) groups → after ≡ clearedPage lines owner groups
+  unfolding clearedPage
+  cleared-told after b e = e ∙ sym (ap (λ (t : Bool). cond t (clearedBlock lines (owner / 512) (owner % 512) groups) groups) (lt-ltb (owner % 512) (lines / 8) b))
+
+  pub cleared-none : lines / 8 ≤ owner % 512 → groups ≡ clearedPage lines owner groups
+  unfolding clearedPage
+  cleared-none b = sym (ap (λ (t : Bool). cond t (clearedBlock lines (owner / 512) (owner % 512) groups) groups) (le-ltb (owner % 512) (lines / 8) b))
+
+pub clear-asks : (lines owner long : ℕ) → lines ≤ 4096 → owner / 512 ≤ 4096 → owner % 512 < lines / 8 → placeOf lines (owner / 512 / 16) (owner % 512 * 8) + 8 ≤ long → AsksSet lines (owner / 512) (owner % 512) long
+clear-asks lines owner long a b c d = record { near = record { lines-few = a; area-few = omega arith; line-few = omega arith }; within = d }
+
+module _ (lines pages first : ℕ) (owners : List ℕ) (gone : ℕ) (groups : List ℕ) where
+  pub record Clearing (n : ℕ) (now : List ℕ) : Type 0 where
+    pub few : n ≤ gone
+    pub long : length now ≡ length groups
+    pub same : now ≡ clearedPages lines pages first owners n groups
+
+  pub clearing-start : Clearing 0 groups
+  unfolding clearedPages
+  clearing-start = record { few = omega arith; long = refl; same = refl }
+
+  module _ (frames omf used : ℕ) (ask : AsksGone lines frames omf pages first used owners gone (length groups)) (n : ℕ) (now : List ℕ) (h : Clearing n now) (b : n < gone) (page : ℕ) (at : page ≡ frameAt pages first n) where
+    frame-few : getD owners page 0 / 512 < frames
+    unfolding indexAt
+    frame-few = index-frame-few frames omf (getD owners page 0) frames (omega (arith, ap (λ (q : ℕ). ownerIndex frames omf (getD owners q 0)) at, ask .inside n b)) (omega arith)
+
+    pub clearing-asks : (lines ≤ 4096) × (getD owners page 0 / 512 ≤ 4096) × (getD owners page 0 % 512 < lines / 8 → placeOf lines (getD owners page 0 / 512 / 16) (getD owners page 0 % 512 * 8) + 8 ≤ length now)
+    clearing-asks = (
+      ask .lines-few,
+      omega (arith, frame-few, ask .ring .frames-few),
+      λ c. omega (arith, h .long, ask .groups-long, place-below lines (frames / 16) (getD owners page 0 / 512 / 16) (getD owners page 0 % 512 * 8 + 7) (area-below frames (getD owners page 0 / 512) (ask .frames-by) frame-few) (omega arith)),
+    )
+
+  module _ (n : ℕ) (now : List ℕ) (h : Clearing n now) (b : n < gone) (page : ℕ) (at : page ≡ frameAt pages first n) where
+    pub clearing-next : (after : List ℕ) → length after ≡ length now → after ≡ clearedPage lines (getD owners page 0) now → Clearing (n + 1) after
+    unfolding clearedPages
+    clearing-next after long e =
+        record {
+          few = omega arith;
+          long = long ∙ h .long;
+          same =
+              e
+              ∙ ((λ j. clearedPage lines (getD owners (at j) 0) (h .same j)) ∙ ap (λ (m : ℕ). clearedPages lines pages first owners m groups) (sym (add-one n)));
+        }
+
+  pub clearing-end : (n : ℕ) (now : List ℕ) → Clearing n now → gone ≤ n → now ≡ clearedPages lines pages first owners gone groups
+  clearing-end n now h b =
+      let all : n ≡ gone = omega (arith, h .few) in
+      h .same ∙ ap (λ (m : ℕ). clearedPages lines pages first owners m groups) all

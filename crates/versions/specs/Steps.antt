@@ -1,42 +1,53 @@
 -- What RESET, ADVANCE and WRITE do to archive, pool, table and owners.
-use Prim.Native.Nat.{ℕ, zero, suc, _+_, _-_, _*_, _/_, _%_, _≤_, _<_, min}
+use mathlib.Core.Path.{_≡_}
+use Prim.Native.Nat.{ℕ, zero, suc, _+_, _*_, _/_, _%_, _≤_, _<_, min}
 use mathlib.Core.Bool.{Bool, cond}
 use mathlib.Core.List.{List}
+use lib.Dec.{ltb}
 use lib.ListN.{length, getD}
 use Rattle.frames.specs.Lists.{rewrite}
 use Rattle.frames.specs.declared.Found.{Found}
 use Rattle.frames.specs.declared.Found.the-variants.{At}
-use Rattle.written.specs.Bits.{Written, newestFrom}
+use Rattle.written.specs.Bits.{Written, Lent, effective}
+use Rattle.written.specs.Steps.{clearedBlock}
 use Rattle.pages.specs.Lines.{pageLine, withArchiveLine}
-use Rattle.pages.specs.Table.{placeAt, AsksTable}
-use Rattle.pages.specs.Ring.{owns, nextPage, AsksRing}
-use Rattle.versions.specs.declared.Spot.{Spot}
-use Rattle.versions.specs.declared.Spot.the-variants.{Page, Archive}
-use Rattle.versions.specs.Newest.{entryAt, spotOf, AsksEntry}
+use Rattle.pages.specs.Table.{blocksOf, placeAt, AsksTable}
+use Rattle.pages.specs.Ring.{pageAt, ownerIndex, indexAt, owns, nextPage, AsksRing}
+use Rattle.versions.specs.Newest.{entryAt, AsksEntry}
 
 -- RESET: "archive all zero".
 unfoldable pub zeroed : (lines : ℕ) → List ℕ → List ℕ
 zeroed lines archive = rewrite (16 * lines) (λ _ b. 0) archive
 
--- ADVANCE(k): "folds the k oldest frames into the archive, newest version of each line winning". A line whose newest version among
--- them stands in a page is copied; the others stay.
-unfoldable pub foldedLine : (archive pool : List ℕ) → (line : ℕ) → Spot → List ℕ
-foldedLine archive pool l (Page p) = withArchiveLine archive l (pageLine pool p (l % 8))
-foldedLine archive pool l Archive = archive
+-- ADVANCE(k): "folds the k oldest frames into the archive, newest version of each line winning": page by page, those of older frames first.
+-- A line is copied where it has an effective bit in the frame of the page, whose index is known:
+unfoldable pub foldedLine : Written → (pool : List ℕ) → (page index line : ℕ) → List ℕ → List ℕ
+foldedLine w pool page index l archive = cond (effective w index l) (withArchiveLine archive l (pageLine pool page (l % 8))) archive
 
--- The archive with the first n lines folded.
-unfoldable pub folded : Written → (pages k : ℕ) → (pool table : List ℕ) → (n : ℕ) → List ℕ → List ℕ
-folded w pages k pool table zero archive = archive
-folded w pages k pool table (suc n) archive =
-    foldedLine (folded w pages k pool table n archive) pool n
-    (spotOf (w .lines) (w .frames) (w .omf) pages table n (newestFrom w n (k - 1)))
+-- the first n lines of a block,
+unfoldable pub foldedLines : Written → (pool : List ℕ) → (page index block n : ℕ) → List ℕ → List ℕ
+foldedLines w pool page index block zero archive = archive
+foldedLines w pool page index block (suc n) archive = foldedLine w pool page index (block * 8 + n) (foldedLines w pool page index block n archive)
 
--- An archive with n lines from one on folded.
-unfoldable pub foldedFrom : Written → (pages k : ℕ) → (pool table : List ℕ) → (line n : ℕ) → List ℕ → List ℕ
-foldedFrom w pages k pool table l zero archive = archive
-foldedFrom w pages k pool table l (suc n) archive =
-    foldedLine (foldedFrom w pages k pool table l n archive) pool (l + n)
-    (spotOf (w .lines) (w .frames) (w .omf) pages table (l + n) (newestFrom w (l + n) (k - 1)))
+-- all eight, if it is a block,
+unfoldable pub foldedPage : Written → (pool : List ℕ) → (page index block : ℕ) → List ℕ → List ℕ
+foldedPage w pool page index block archive = cond (ltb block (blocksOf w)) (foldedLines w pool page index block 8 archive) archive
+
+-- and the first n pages of the ring.
+unfoldable pub foldedPages : Written → (pages first : ℕ) → (pool owners : List ℕ) → ℕ → List ℕ → List ℕ
+foldedPages w pages first pool owners zero archive = archive
+foldedPages w pages first pool owners (suc n) archive =
+    let owner = getD owners (pageAt pages first n) 0 in
+    foldedPage w pool (pageAt pages first n) (ownerIndex (w .frames) (w .omf) owner) (owner % 512) (foldedPages w pages first pool owners n archive)
+
+-- Their frames' bits in the lines of their blocks are cleared.
+unfoldable pub clearedPage : (lines owner : ℕ) → List ℕ → List ℕ
+clearedPage lines owner groups = cond (ltb (owner % 512) (lines / 8)) (clearedBlock lines (owner / 512) (owner % 512) groups) groups
+
+unfoldable pub clearedPages : (lines pages first : ℕ) → (owners : List ℕ) → ℕ → List ℕ → List ℕ
+clearedPages lines pages first owners zero groups = groups
+clearedPages lines pages first owners (suc n) groups =
+    clearedPage lines (getD owners (pageAt pages first n) 0) (clearedPages lines pages first owners n groups)
 
 -- The page that a write to a line in a frame goes to: the one that the table names where it is the place's own, and else the next of the
 -- ring. Nothing: none is left.
@@ -67,11 +78,29 @@ pub record AsksPut (w : Written) (pages tag line index page : ℕ) (pool table o
   pub pool-long : 128 * pages ≤ length pool
   pub owners-long : pages ≤ length owners
 
--- What a fold asks: k frames, and the lengths.
-pub record AsksFold (w : Written) (pages k : ℕ) (archive pool table : List ℕ) : Type 0 where
-  pub asks : AsksTable w table
-  pub k-some : 0 < k
-  pub k-below : k < w .frames
+-- What copying from a page asks: the page, the frame's index and the lengths,
+pub record AsksCopy (w : Written) (pages page index archive pool : ℕ) : Type 0 where
+  pub lent : Lent w
+  pub lines-by : w .lines % 8 ≡ 0
+  pub page-below : page < pages
   pub pages-few : pages ≤ 4096
-  pub archive-long : 16 * w .lines ≤ length archive
-  pub pool-long : 128 * pages ≤ length pool
+  pub index-below : index < w .frames
+  pub archive-long : 16 * w .lines ≤ archive
+  pub pool-long : 128 * pages ≤ pool
+
+-- a fold: the ring besides.
+pub record AsksFold (w : Written) (pages first used archive pool owners : ℕ) : Type 0 where
+  pub lent : Lent w
+  pub lines-by : w .lines % 8 ≡ 0
+  pub ring : AsksRing pages first used (w .frames) (w .omf) owners
+  pub archive-long : 16 * w .lines ≤ archive
+  pub pool-long : 128 * pages ≤ pool
+
+-- What clearing asks: the pages' owners are of frames that there are.
+pub record AsksGone (lines frames omf pages first used : ℕ) (owners : List ℕ) (gone groups : ℕ) : Type 0 where
+  pub lines-few : lines ≤ 4096
+  pub frames-by : frames % 16 ≡ 0
+  pub ring : AsksRing pages first used frames omf (length owners)
+  pub gone-few : gone ≤ used
+  pub inside : (i : ℕ) → i < gone → indexAt frames omf pages first owners i < frames
+  pub groups-long : frames / 16 * lines ≤ groups

@@ -9,12 +9,13 @@ ghost use Prim.Native.Nat.{_+_, _*_, _/_, _%_, _≤_, _<_};
 ghost use lib.ListN;
 ghost use lib.ListN.{length, getD};
 ghost use Rattle.frames.specs.Circle.{frameAt};
-ghost use Rattle.written.specs.Bits.{writtenOf};
+ghost use Rattle.written.specs.Bits.{writtenOf, placeOf};
 ghost use Rattle.written.specs.Steps.{withWritten};
 ghost use Rattle.pages.specs.Lines.{withPageLine};
 ghost use Rattle.pages.specs.Table.{placeAt};
+ghost use Rattle.pages.specs.Ring.{indexAt, Leads};
 ghost use Rattle.versions.specs.Newest.{entryAt, spotOf, contentOf, newestOf, latestHeld, AsksEntry, AsksSpot, AsksContent, AsksNewest};
-ghost use Rattle.versions.specs.Steps.{zeroed, foldedLine, folded, foldedFrom, pageFor, usedFor, AsksPageFor, AsksPut, AsksFold};
+ghost use Rattle.versions.specs.Steps.{zeroed, foldedLine, foldedPage, foldedPages, clearedPage, clearedPages, pageFor, usedFor, AsksPageFor, AsksPut, AsksCopy, AsksFold, AsksGone};
 
 // Where a version stands: in a page of the pool, in the slot of its line, or in the archive.
 pub enum Spot {
@@ -192,125 +193,128 @@ pub fn zero(archive: &mut [u8], lines: u32)
     }
 }
 
-// Copies a version that stands in a page to its line of the archive.
-fn fold_line(archive: &mut [u8], pool: &[u8], lines: u32, pages: u32, line: u32, spot: Spot)
-    requires { ⌜ AsksContent lines pages line spot (length (now archive)) (length (now pool)) ⌝ }
-    ensures { λ _. ⌜ now (archive .exit) ≡ foldedLine (now (archive .entry)) (now (pool .entry)) line spot ⌝ }
-{
-    match spot {
-        Spot::Page(page) => {
-            let content = pages::lines::read_page_line(pool, page, line % 8);
-            pages::lines::write_archive_line(archive, line, content);
-        }
-        Spot::Archive => {}
-    }
-}
-
-// Folds the versions of a block's eight lines in the k oldest frames into the archive, line after line.
-fn fold_block(
+// Copies the version that a page has of a line, if the frame of an index wrote it, to the archive.
+fn fold_line(
     archive: &mut [u8],
     pool: &[u8],
     groups: &[u32],
-    table: &[u16],
     history: &[u16],
-    lines: u32,
-    frames: u32,
-    omf: u32,
-    pages: u32,
-    k: u32,
+    ring: Ring,
+    page: u32,
+    index: u32,
+    line: u32,
+)
+    requires { ⌜ (AsksCopy (writtenOf (ring .lines) (ring .frames) (ring .omf) (now groups) (now history)) (ring .pages) page index (length (now archive)) (length (now pool))) × (line < ring .lines) ⌝ }
+    ensures { λ _. ⌜ now (archive .exit) ≡ foldedLine (writtenOf (ring .lines) (ring .frames) (ring .omf) (now (groups .entry)) (now (history .entry))) (now (pool .entry)) page index line (now (archive .entry)) ⌝ }
+{
+    if !written::has(
+        groups,
+        history,
+        ring.lines,
+        ring.frames,
+        ring.omf,
+        line,
+        index,
+    ) {
+        return;
+    }
+    let content = pages::lines::read_page_line(pool, page, line % 8);
+    pages::lines::write_archive_line(archive, line, content);
+}
+
+// Copies the versions that a page has of the lines of a block so.
+fn fold_page(
+    archive: &mut [u8],
+    pool: &[u8],
+    groups: &[u32],
+    history: &[u16],
+    ring: Ring,
+    page: u32,
+    index: u32,
     block: u32,
 )
-    requires { ⌜ (AsksFold (writtenOf lines frames omf (now groups) (now history)) pages k (now archive) (now pool) (now table)) × (block * 8 + 8 ≤ lines) ⌝ }
-    ensures { λ _. ⌜ now (archive .exit) ≡ foldedFrom (writtenOf lines frames omf (now (groups .entry)) (now (history .entry))) pages k (now (pool .entry)) (now (table .entry)) (block * 8) 8 (now (archive .entry)) ⌝ }
+    requires { ⌜ AsksCopy (writtenOf (ring .lines) (ring .frames) (ring .omf) (now groups) (now history)) (ring .pages) page index (length (now archive)) (length (now pool)) ⌝ }
+    ensures { λ _. ⌜ now (archive .exit) ≡ foldedPage (writtenOf (ring .lines) (ring .frames) (ring .omf) (now (groups .entry)) (now (history .entry))) (now (pool .entry)) page index block (now (archive .entry)) ⌝ }
 {
+    if ring.lines / 8 <= block {
+        return;
+    }
     let mut n = 0;
     while n < 8 {
-        let line = block * 8 + n;
-        let found = written::search(groups, history, lines, frames, omf, line, k - 1);
-        let at = locate(table, lines, frames, omf, pages, line, found);
-        fold_line(archive, pool, lines, pages, line, at);
+        fold_line(
+            archive,
+            pool,
+            groups,
+            history,
+            ring,
+            page,
+            index,
+            block * 8 + n,
+        );
         n = n + 1;
     }
 }
 
-// Folds the versions of neighbouring blocks so, block after block. A block without a bit in the frames' working areas is passed over.
-fn fold_span(
-    archive: &mut [u8],
-    pool: &[u8],
-    groups: &[u32],
-    table: &[u16],
-    history: &[u16],
-    lines: u32,
-    frames: u32,
-    omf: u32,
-    pages: u32,
-    k: u32,
-    first: u32,
-    count: u32,
-)
-    requires { ⌜ (AsksFold (writtenOf lines frames omf (now groups) (now history)) pages k (now archive) (now pool) (now table)) × (first * 8 + count * 8 ≤ lines) ⌝ }
-    ensures { λ _. ⌜ now (archive .exit) ≡ foldedFrom (writtenOf lines frames omf (now (groups .entry)) (now (history .entry))) pages k (now (pool .entry)) (now (table .entry)) (first * 8) (count * 8) (now (archive .entry)) ⌝ }
-{
-    let mut n = 0;
-    while n < count {
-        let block = first + n;
-        if !written::block_is_blank(groups, lines, frames, omf, block, k) {
-            fold_block(
-                archive,
-                pool,
-                groups,
-                table,
-                history,
-                lines,
-                frames,
-                omf,
-                pages,
-                k,
-                block,
-            );
-        }
-        n = n + 1;
-    }
-}
-
-// Folds the versions of the k oldest frames into the archive, eight blocks at a time. Blocks without a bit in the frames' working areas,
-// as most are, are passed over together.
+// Folds the versions of the k oldest frames into the archive, page after page from the ring's oldest on; how many pages they have.
 pub fn fold(
     archive: &mut [u8],
     pool: &[u8],
     groups: &[u32],
-    table: &[u16],
     history: &[u16],
-    lines: u32,
-    frames: u32,
-    omf: u32,
-    pages: u32,
+    owners: &[u32],
+    ring: Ring,
     k: u32,
-)
-    requires { ⌜ AsksFold (writtenOf lines frames omf (now groups) (now history)) pages k (now archive) (now pool) (now table) ⌝ }
-    ensures { λ _. ⌜ now (archive .exit) ≡ folded (writtenOf lines frames omf (now (groups .entry)) (now (history .entry))) pages k (now (pool .entry)) (now (table .entry)) lines (now (archive .entry)) ⌝ }
+) -> u32
+    requires { ⌜ (AsksFold (writtenOf (ring .lines) (ring .frames) (ring .omf) (now groups) (now history)) (ring .pages) (ring .first) (ring .used) (length (now archive)) (length (now pool)) (length (now owners))) × (k < ring .frames) ⌝ }
+    ensures { λ r. ⌜ (Leads (ring .used) (indexAt (ring .frames) (ring .omf) (ring .pages) (ring .first) (now (owners .entry))) k r)
+        × (now (archive .exit) ≡ foldedPages (writtenOf (ring .lines) (ring .frames) (ring .omf) (now (groups .entry)) (now (history .entry))) (ring .pages) (ring .first) (now (pool .entry)) (now (owners .entry)) r (now (archive .entry))) ⌝ }
 {
-    let blocks = lines / 8;
-    let mut block = 0;
-    while block < blocks {
-        let count = frames::least(8, blocks - block);
-        if !written::span_is_blank(groups, lines, frames, omf, block * 8, count * 8, k) {
-            fold_span(
-                archive,
-                pool,
-                groups,
-                table,
-                history,
-                lines,
-                frames,
-                omf,
-                pages,
-                k,
-                block,
-                count,
-            );
+    let used = ring.used;
+    let mut i = 0;
+    while i < used {
+        let page = frames::frame_at(i, ring.first, ring.pages);
+        let owner = owners[page as usize];
+        let index = pages::segment::owner_index(ring, owner);
+        if k <= index {
+            return i;
         }
-        block = block + count;
+        fold_page(
+            archive,
+            pool,
+            groups,
+            history,
+            ring,
+            page,
+            index,
+            owner % 512,
+        );
+        i = i + 1;
+    }
+    i
+}
+
+// Clears the bits of a page's frame in the lines of its block.
+fn clear_page(groups: &mut [u32], lines: u32, owner: u32)
+    requires { ⌜ (lines ≤ 4096) × (owner / 512 ≤ 4096) × (owner % 512 < lines / 8 → placeOf lines (owner / 512 / 16) (owner % 512 * 8) + 8 ≤ length (now groups)) ⌝ }
+    ensures { λ _. ⌜ now (groups .exit) ≡ clearedPage lines owner (now (groups .entry)) ⌝ }
+{
+    let block = owner % 512;
+    if lines / 8 <= block {
+        return;
+    }
+    written::clear_block(groups, lines, owner / 512, block);
+}
+
+// Clears the bits of the ring's first pages so.
+pub fn clear(groups: &mut [u32], owners: &[u32], ring: Ring, gone: u32)
+    requires { ⌜ AsksGone (ring .lines) (ring .frames) (ring .omf) (ring .pages) (ring .first) (ring .used) (now owners) gone (length (now groups)) ⌝ }
+    ensures { λ _. ⌜ now (groups .exit) ≡ clearedPages (ring .lines) (ring .pages) (ring .first) (now (owners .entry)) gone (now (groups .entry)) ⌝ }
+{
+    let mut i = 0;
+    while i < gone {
+        let page = frames::frame_at(i, ring.first, ring.pages) as usize;
+        clear_page(groups, ring.lines, owners[page]);
+        i = i + 1;
     }
 }
 

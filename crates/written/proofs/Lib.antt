@@ -9,3 +9,4 @@ pub mod Rolling
 pub mod Advancing
 pub mod Keeping
 pub mod Finding
+pub mod Unsetting

@@ -11,7 +11,7 @@ use lib.Arith.{digits-div}
 use lib.ListN.{length, getD, set}
 use Rattle.frames.specs.Lists.{rewrite}
 use Rattle.written.specs.Bits.{Written, writtenOf, boundOf, firstIndex, cutOf, windowOf}
-use Rattle.written.specs.Steps.{maskedOf, Entered, entered, swept, cleared, lowerBound, nextTag, RolledBack}
+use Rattle.written.specs.Steps.{maskedOf, Entered, entered, swept, lowerBound, nextTag, RolledBack}
 use Rattle.frames.proofs.Lists.{Rewritten, rewrite-start, rewrite-end, rewrite-length, rewrite-past, rewrite-part}
 use Rattle.written.proofs.Windows.{cut-none}
 
@@ -80,10 +80,6 @@ lower-gone k e h b = omega (arith, lower-else k e h)
 
 pub lower-some : (k e : ℕ) → (e ≡ 65535 → ⊥) → k ≤ e → e - k ≡ lowerBound k e
 lower-some k e h b = sym (lower-else k e h)
-
-pub cleared-told : (lines frames omf a k : ℕ) (before now : List ℕ) → (a ≡ k) × (a < 65536) → now ≡ cleared lines frames omf a before
-    → now ≡ cleared lines frames omf k before
-cleared-told lines frames omf a k before now e h = h ∙ ap (λ (n : ℕ). cleared lines frames omf n before) (e .0)
 
 -- the two ends of a rollback
 module _ (w : Written) (tag kept : ℕ) (entry : List ℕ) (h : Entered tag kept (w .history) entry) where

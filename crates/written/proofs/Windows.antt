@@ -1,5 +1,5 @@
 -- The bits of a group whose index from OMF lies in a window, digit by digit. Assumes nothing.
-use mathlib.Core.Path.{_≡_, refl, sym, _∙_, ap, ap₂, subst}
+use mathlib.Core.Path.{_≡_, sym, _∙_, ap, ap₂, subst}
 use mathlib.Core.Bool.{Bool, false, _&&_, and-false, and-true}
 use mathlib.Core.Logic.{_⊎_, inl, inr, ⊎-elim}
 use Prim.Native.Nat.{ℕ, _+_, _-_, _*_, _/_, _%_, _^_, _≤_, _<_, min}
@@ -18,7 +18,6 @@ use Rattle.frames.specs.Digits.{digit, bit, rangeOf}
 use Rattle.frames.proofs.Circle.{index-below}
 use Rattle.frames.proofs.Digits.{digit-below, digit-from, digit-bit, bit-none, range-le, range-lt, range-under, range-over, range-in}
 use Rattle.written.specs.Bits.{firstIndex, beforeWrap, afterWrap, cutOf, windowOf}
-use Rattle.written.specs.Steps.{keptOf}
 
 -- two numbers with their digits on either side of a place add up digit by digit
 module _ (low k u : ℕ) (small : low < 2 ^ u) where
@@ -198,29 +197,7 @@ module _ (g s u from end : ℕ) where
           in
           omega (arith, range-le g lo hi, rest)
 
--- and one whose sixteen frames all lie in the window has them all
-all-of : (g : ℕ) → rangeOf g 0 16 + rangeOf g 16 16 ≡ g % 65536
-unfolding rangeOf
-all-of g = omega arith
-
-cut-all : (g s u from end : ℕ) → from ≤ s → u ≡ 16 → s + 16 ≤ end → cutOf g s u from end ≡ g % 65536
-unfolding cutOf beforeWrap afterWrap
-cut-all g s u from end a c d =
-    let lo : min u (from - s) ≡ 0 = omega arith in
-    let hi : min u (end - s) ≡ 16 = omega arith in
-    let over : min 16 (from + u) ≡ 16 = omega arith in
-    let past : min 16 (end + u) ≡ 16 = omega arith in
-    ap₂ (λ (x y : ℕ). x + y) (ap₂ (rangeOf g) lo hi) (ap₂ (rangeOf g) over past) ∙ all-of g
-
 module _ (n omf area g s u : ℕ) (es : (s ≡ firstIndex n omf area) × (s < n)) (eu : u ≡ min 16 (n - s)) where
   pub window-told : (from end r : ℕ) → (r ≡ cutOf g s u from end) × (r < 65536) → r ≡ windowOf n omf area g from end
   unfolding windowOf
   window-told from end r e = cc
-
-  pub kept-told : (k r : ℕ) → r ≡ g / 65536 * 65536 + cutOf g s u k n → r ≡ keptOf n omf area k g
-  unfolding keptOf windowOf
-  kept-told k r e = cc
-
-  -- a group whose sixteen frames are all kept stays as it is
-  pub kept-all : (k : ℕ) → k ≤ s → u ≡ 16 → keptOf n omf area k g ≡ g
-  kept-all k a c = omega (arith, kept-told k _ refl, cut-all g s u k n a c (omega (arith, es .1)))

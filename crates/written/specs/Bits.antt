@@ -1,7 +1,7 @@
 -- Written bits in groups of sixteen with their tag, and the rollback history that masks them. Quotations are of document 01.
 use Prim.Native.Nat.{ℕ, zero, suc, _+_, _-_, _*_, _/_, _%_, _≤_, _<_, min}
 use mathlib.Core.Path.{_≡_}
-use mathlib.Core.Bool.{Bool, not, _&&_}
+use mathlib.Core.Bool.{Bool, _&&_}
 use mathlib.Core.List.{List}
 use lib.Dec.{leb, ltb}
 use lib.ListN.{length, getD}
@@ -94,18 +94,6 @@ sumFrom f groups at (suc n) = sumFrom f groups at n + f (getD groups (at + n) 0)
 unfoldable pub setIn : (lines : ℕ) → (groups : List ℕ) → (frame block : ℕ) → ℕ
 setIn lines groups f block = sumFrom (λ g. digit g (f % 16)) groups (placeOf lines (f / 16) (block * 8)) 8
 
--- The bits of n neighbouring groups, all sixteen of each,
-abbrev pub bitsFrom : (groups : List ℕ) → (at n : ℕ) → ℕ
-bitsFrom groups at n = sumFrom (λ g. g % 65536) groups at n
-
--- those of neighbouring lines in the working area of an index,
-unfoldable pub spanBits : (lines frames omf : ℕ) → (groups : List ℕ) → (first count index : ℕ) → ℕ
-spanBits lines frames omf groups first count i = bitsFrom groups (placeOf lines (frameAt frames omf i / 16) first) count
-
--- and whether none is set in the working areas of the indexes below an end.
-unfoldable pub spanBlank : (lines frames omf : ℕ) → (groups : List ℕ) → (first count end : ℕ) → Bool
-spanBlank lines frames omf groups first count end = not (any end (λ i. ltb 0 (spanBits lines frames omf groups first count i)))
-
 -- The index of an area's first frame.
 unfoldable pub firstIndex : (frames omf area : ℕ) → ℕ
 firstIndex frames omf area = indexOf frames omf (area * 16)
@@ -159,13 +147,3 @@ pub record AsksBlock (w : Written) (block end : ℕ) : Type 0 where
 pub record AsksSet (lines frame block long : ℕ) : Type 0 where
   pub near : Near lines (frame / 16) (block * 8)
   pub within : placeOf lines (frame / 16) (block * 8) + 8 ≤ long
-
--- What the test of neighbouring lines asks, without a history.
-pub record AsksSpan (lines frames omf first count end long : ℕ) : Type 0 where
-  pub lines-few : lines ≤ 4096
-  pub frames-by : frames % 16 ≡ 0
-  pub frames-few : frames ≤ 4096
-  pub omf-below : omf < frames
-  pub span-below : first + count ≤ lines
-  pub end-within : end ≤ frames
-  pub groups-long : frames / 16 * lines ≤ long

@@ -1,12 +1,12 @@
 -- What writing, a rollback and an advance leave in the groups and the history.
-use Prim.Native.Nat.{ℕ, _+_, _-_, _*_, _/_, _%_, _≤_, _<_, min}
+use Prim.Native.Nat.{ℕ, zero, suc, _+_, _-_, _*_, _/_, _%_, _≤_, _<_, min}
 use mathlib.Core.Path.{_≡_}
 use mathlib.Core.Bool.{cond}
 use mathlib.Core.List.{List}
 use lib.Dec.{eqb, ltb}
 use lib.ListN.{length, getD, set}
 use Rattle.frames.specs.Circle.{frameAt}
-use Rattle.frames.specs.Digits.{setAt}
+use Rattle.frames.specs.Digits.{setAt, unsetAt}
 use Rattle.frames.specs.Lists.{rewrite}
 use Rattle.written.specs.Bits.{Written, writtenOf, placeOf, tagged, boundOf, windowOf}
 
@@ -44,13 +44,18 @@ unfoldable pub swept : Written → List ℕ
 swept w =
     rewrite (w .frames / 16 * w .lines) (λ at g. maskedOf (w .frames) (w .omf) (at / w .lines) (w .history) g) (w .groups)
 
--- A group without the bits of the frames with an index below k; all else of it stays.
-unfoldable pub keptOf : (frames omf area k g : ℕ) → ℕ
-keptOf frames omf area k g = g / 65536 * 65536 + windowOf frames omf area g k frames
+-- A group without the bit of a frame; all else of it stays.
+unfoldable pub unsetIn : (frame g : ℕ) → ℕ
+unsetIn f g = tagged (g / 65536) (unsetAt (g % 65536) (f % 16))
 
--- The frames that an advance collects have no bit any more, in every line; the tags stay.
-unfoldable pub cleared : (lines frames omf k : ℕ) → List ℕ → List ℕ
-cleared lines frames omf k groups = rewrite (frames / 16 * lines) (λ at g. keptOf frames omf (at / lines) k g) groups
+-- n neighbouring groups so, from a place on.
+unfoldable pub clearedFrom : (frame at n : ℕ) → List ℕ → List ℕ
+clearedFrom f at zero groups = groups
+clearedFrom f at (suc n) groups = set (clearedFrom f at n groups) (at + n) (unsetIn f (getD groups (at + n) 0))
+
+-- A frame's bits in a block's 8 lines.
+abbrev pub clearedBlock : (lines frame block : ℕ) → List ℕ → List ℕ
+clearedBlock lines f block groups = clearedFrom f (placeOf lines (f / 16) (block * 8)) 8 groups
 
 -- A bound goes down with OMF, never below 0; that no rollback was is no bound.
 unfoldable pub lowerBound : (k bound : ℕ) → ℕ
@@ -79,18 +84,11 @@ pub record AsksWindow (frames omf area from end : ℕ) : Type 0 where
   pub from-few : from ≤ 65535
   pub end-few : end ≤ 65535
 
--- What clearing and a reset ask.
-pub record AsksClear (lines frames omf k long : ℕ) : Type 0 where
-  pub lines-few : lines ≤ 4096
-  pub frames-few : frames ≤ 4096
-  pub omf-below : omf < frames
-  pub k-below : k < frames
-  pub groups-long : frames / 16 * lines ≤ long
-
 -- RESET: "no written bits".
 unfoldable pub blanked : (lines frames : ℕ) → List ℕ → List ℕ
 blanked lines frames groups = rewrite (frames / 16 * lines) (λ _ g. 0) groups
 
+-- What it asks.
 pub record AsksReset (lines frames groups-long history-long : ℕ) : Type 0 where
   pub lines-few : lines ≤ 4096
   pub frames-few : frames ≤ 4096

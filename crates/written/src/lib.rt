@@ -8,8 +8,8 @@ ghost use lib.ListN.{length, getD};
 ghost use Rattle.rules.specs.Seen.{needs};
 ghost use Rattle.frames.specs.Circle.{Turn, indexOf};
 ghost use Rattle.frames.specs.Lists.{rewrite};
-ghost use Rattle.written.specs.Bits.{writtenOf, Lent, Asks, AsksBlock, AsksSet, AsksSpan, Near, placeOf, boundOf, effective, newestFrom, newestRun, newestInArea, downOf, upOf, standsIn, runHas, blockHas, setIn, bitsFrom, spanBlank, firstIndex, beforeWrap, afterWrap, cutOf, windowOf};
-ghost use Rattle.written.specs.Steps.{AsksWindow, AsksClear, AsksReset, regrouped, withWritten, Entered, maskedOf, swept, keptOf, cleared, lowerBound, lowered, RolledBack, blanked};
+ghost use Rattle.written.specs.Bits.{writtenOf, Lent, Asks, AsksBlock, AsksSet, Near, placeOf, boundOf, effective, newestFrom, newestRun, newestInArea, downOf, upOf, standsIn, runHas, blockHas, setIn, firstIndex, beforeWrap, afterWrap, cutOf, windowOf};
+ghost use Rattle.written.specs.Steps.{AsksWindow, AsksReset, regrouped, withWritten, Entered, maskedOf, swept, unsetIn, clearedBlock, lowerBound, lowered, RolledBack, blanked};
 
 // Where the group of a line in a working area stands.
 fn place_of(lines: u32, area: u32, line: u32) -> usize
@@ -228,59 +228,45 @@ pub fn needed(
     block_has(groups, history, lines, frames, omf, block, index, index + 1)
 }
 
-// The bits of so many neighbouring groups added up, in one go.
-fn many_bits(groups: &[u32], at: usize, count: usize) -> u32
-    requires { ⌜ (at + count ≤ length (now groups)) × (count ≤ 4096) ⌝ }
-    ensures { λ r. ⌜ r ≡ bitsFrom (now (groups .entry)) at count ⌝ }
+// Whether a line has an effective bit in the frame of an index.
+pub fn has(
+    groups: &[u32],
+    history: &[u16],
+    lines: u32,
+    frames: u32,
+    omf: u32,
+    line: u32,
+    index: u32,
+) -> bool
+    requires { ⌜ Asks (writtenOf lines frames omf (now groups) (now history)) line index ⌝ }
+    ensures { λ r. ⌜ r ≡ effective (writtenOf lines frames omf (now (groups .entry)) (now (history .entry))) index line ⌝ }
 {
-    let mut sum = 0;
+    let frame = frames::frame_at(index, omf, frames);
+    let group = group_at(groups, lines, frame / 16, line);
+    if !frames::is_set(group, frame % 16) {
+        return false;
+    }
+    index < bound_of(history, group)
+}
+
+// A group without the bit of a frame.
+fn unset(group: u32, frame: u32) -> u32
+    ensures { λ r. ⌜ r ≡ unsetIn frame group ⌝ }
+{
+    group / 65536 * 65536 + frames::without_bit(group % 65536, frame % 16)
+}
+
+// Clears the bits of a frame in a block's eight lines, effective or stale.
+pub fn clear_block(groups: &mut [u32], lines: u32, frame: u32, block: u32)
+    requires { ⌜ AsksSet lines frame block (length (now groups)) ⌝ }
+    ensures { λ _. ⌜ now (groups .exit) ≡ clearedBlock lines frame block (now (groups .entry)) ⌝ }
+{
+    let at = place_of(lines, frame / 16, block * 8);
     let mut n = 0;
-    while n < count {
-        sum = sum + groups[at + n] % 65536;
+    while n < 8 {
+        groups[at + n] = unset(groups[at + n], frame);
         n = n + 1;
     }
-    sum
-}
-
-// Whether so many neighbouring lines have no bit at all, effective or stale, in the working areas of the indexes below an end: a search
-// from there finds none of them. The history is not looked at.
-pub fn span_is_blank(
-    groups: &[u32],
-    lines: u32,
-    frames: u32,
-    omf: u32,
-    first: u32,
-    count: u32,
-    end: u32,
-) -> bool
-    requires { ⌜ AsksSpan lines frames omf first count end (length (now groups)) ⌝ }
-    ensures { λ r. ⌜ r ≡ spanBlank lines frames omf (now (groups .entry)) first count end ⌝ }
-{
-    let many = count as usize;
-    let mut i = 0;
-    while i < end {
-        let area = frames::frame_at(i, omf, frames) / 16;
-        if 0 < many_bits(groups, place_of(lines, area, first), many) {
-            return false;
-        }
-        i = i + run_up(i, end, omf, frames);
-    }
-    true
-}
-
-// The same for a block's eight lines.
-pub fn block_is_blank(
-    groups: &[u32],
-    lines: u32,
-    frames: u32,
-    omf: u32,
-    block: u32,
-    end: u32,
-) -> bool
-    requires { ⌜ AsksSpan lines frames omf (block * 8) 8 end (length (now groups)) ⌝ }
-    ensures { λ r. ⌜ r ≡ spanBlank lines frames omf (now (groups .entry)) (block * 8) 8 end ⌝ }
-{
-    span_is_blank(groups, lines, frames, omf, block * 8, 8, end)
 }
 
 // The bits of a group before the circle closes in its area, and after, in a window of indexes.
@@ -460,8 +446,8 @@ fn lower_bound(bound: u16, k: u16) -> u16
     if bound < k { 0 } else { bound - k }
 }
 
-// Lowers the entries of the history with OMF.
-fn lower(history: &mut [u16], k: u16)
+// Lowers the entries of the history with OMF: an advance that collects the k oldest frames.
+pub fn lower(history: &mut [u16], k: u16)
     requires { ⌜ 256 ≤ length (now history) ⌝ }
     ensures { λ _. ⌜ now (history .exit) ≡ lowered k (now (history .entry)) ⌝ }
 {
@@ -470,56 +456,6 @@ fn lower(history: &mut [u16], k: u16)
         history[t] = lower_bound(history[t], k);
         t = t + 1;
     }
-}
-
-// A group without the bits of the frames with an index below k.
-fn without(group: u32, s: u32, u: u32, frames: u32, k: u32) -> u32
-    requires { ⌜ (u ≤ 16) × (k ≤ 65535) × (frames ≤ 65535) ⌝ }
-    ensures { λ r. ⌜ r ≡ group / 65536 * 65536 + cutOf group s u k frames ⌝ }
-{
-    group / 65536 * 65536 + cut(group, s, u, k, frames)
-}
-
-// Clears the bits of the frames with an index below k in the groups of a working area, which is left alone if it has none of them.
-fn clear_area(groups: &mut [u32], area: u32, frames: u32, omf: u32, k: u32)
-    requires { ⌜ AsksWindow frames omf area k frames ⌝ }
-    ensures { λ _. ⌜ now (groups .exit) ≡ rewrite (length (now (groups .entry))) (λ _ g. keptOf frames omf area k g) (now (groups .entry)) ⌝ }
-{
-    let s = first_index(area, omf, frames);
-    let u = frames::least(16, frames - s);
-    if k <= s && u == 16 {
-        return;
-    }
-    let mut line = 0;
-    while line < groups.len() {
-        groups[line] = without(groups[line], s, u, frames, k);
-        line = line + 1;
-    }
-}
-
-// Clears them in every line, working area by working area.
-fn clear(groups: &mut [u32], lines: u32, frames: u32, omf: u32, k: u32)
-    requires { ⌜ AsksClear lines frames omf k (length (now groups)) ⌝ }
-    ensures { λ _. ⌜ now (groups .exit) ≡ cleared lines frames omf k (now (groups .entry)) ⌝ }
-{
-    let areas = frames / 16;
-    let mut area = 0;
-    while area < areas {
-        let first = (area * lines) as usize;
-        let end = first + lines as usize;
-        clear_area(&mut groups[first..end], area, frames, omf, k);
-        area = area + 1;
-    }
-}
-
-// An advance that collects the k oldest frames: their bits are cleared, and the history goes down with OMF.
-pub fn advance(groups: &mut [u32], history: &mut [u16], lines: u32, frames: u32, omf: u32, k: u16)
-    requires { ⌜ (Lent (writtenOf lines frames omf (now groups) (now history))) × (k < frames) ⌝ }
-    ensures kept { λ _. ⌜ now (groups .exit) ≡ cleared lines frames omf k (now (groups .entry)) ⌝ }
-    ensures bounds { λ _. ⌜ now (history .exit) ≡ lowered k (now (history .entry)) ⌝ }
-{
-    clear(groups, lines, frames, omf, frames::wide(k));
-    lower(history, k);
 }
 
 // No written bit, and a history with no rollback: what a reset leaves, whatever the lists held.

@@ -1,61 +1,60 @@
 -- `versions::fold` meets its contract. Assumes nothing.
-use mathlib.Core.Path.{_∙_, ap}
-use mathlib.Core.Logic.{⊎-elim}
-use Prim.Native.Nat.{_-_, _*_}
-use lib.ListN.{length}
+use mathlib.Core.Path.{refl}
+use Prim.Native.Nat.{_-_}
 use native.Mathlib.Omega.{arith}
 use borrow.Author.Needs.{needs}
 use Rattle.written.specs.Bits.{writtenOf}
-use Rattle.versions.proofs.Folding.{Folding, folding-start, folding-more, folding-skip, folding-all}
+use Rattle.versions.proofs.Folding.{Pages, pages-start, page-owned, pages-stop, pages-ask, pages-next, pages-end}
 use Rattle.versions.proofs.fold.Statement.{statement}
 use Rattle.versions.proofs.fold.Tie as tie
 
 abbrev Inv-loop : tie.InvT-loop
-Inv-loop archive₀ pool groups table history lines frames omf pages k blocks block₀ archive block =
-    Folding (writtenOf lines frames omf groups history) pages k pool table archive₀ 0 lines (block * 8) archive
+Inv-loop archive₀ pool groups history owners ring k used i₀ archive i = Pages (writtenOf (ring .lines) (ring .frames) (ring .omf) groups history) (ring .pages) (ring .first) used pool owners archive₀ k i archive
 
 abbrev μ-loop : tie.MeasureT-loop
-μ-loop archive₀ pool groups table history lines frames omf pages k blocks block₀ archive block = blocks - block
+μ-loop archive₀ pool groups history owners ring k used i₀ archive i = used - i
 
 loop-holds : tie.Need-loop-holds Inv-loop μ-loop
-loop-holds c = folding-start _ _ _ _ _ _ _ _
+loop-holds c = pages-start _ _ _ _ _ _ _ _
 
-sub-least : tie.Need-sub-least Inv-loop μ-loop
-sub-least c = search needs
+frame-at-requires : tie.Need-frame-at-requires Inv-loop μ-loop
+frame-at-requires c κs = let s : tie.Start Inv-loop μ-loop = search in let t : tie.In-loop Inv-loop μ-loop = search in record { omf-below = s .pre .0 .ring .first-below; below = omega (arith, t .loop-test .taken, s .pre .0 .ring .used-few); few = omega (arith, s .pre .0 .ring .pages-few) }
 
-least-requires : tie.Need-least-requires Inv-loop μ-loop
-least-requires c κs = search needs
+cast-owner : tie.Need-cast-owner Inv-loop μ-loop
+cast-owner c = search needs
 
-mul-span-is-blank : tie.Need-mul-span-is-blank Inv-loop μ-loop
-mul-span-is-blank c = search needs
+mul-owner : tie.Need-mul-owner Inv-loop μ-loop
+mul-owner c = search needs
 
-mul-span-is-blank-2 : tie.Need-mul-span-is-blank-2 Inv-loop μ-loop
-mul-span-is-blank-2 c = search needs
+shared-slice-read-owner : tie.Need-shared-slice-read-owner Inv-loop μ-loop
+shared-slice-read-owner c = let s : tie.Start Inv-loop μ-loop = search in let f : tie.After-frame-at Inv-loop μ-loop = search in page-owned _ _ _ _ _ (s .pre .0 .ring .first-below) (s .pre .0 .ring .owners-long) (f .frame-at .ensures)
 
-span-is-blank-requires : tie.Need-span-is-blank-requires Inv-loop μ-loop
-span-is-blank-requires c κs = search needs
-
-fold-span-requires : tie.Need-fold-span-requires Inv-loop μ-loop
-fold-span-requires c κs = search needs
-
-add-block : tie.Need-add-block Inv-loop μ-loop
-add-block c = search needs
-
-loop-less : tie.Need-loop-less Inv-loop μ-loop
-loop-less c = search needs
-
-loop-again : tie.Need-loop-again Inv-loop μ-loop
-loop-again c =
-    ⊎-elim
-    (λ came. folding-more _ _ _ _ _ _ _ _ _ _ (c .before .before .before .before .loop .inv) _ _ _ (omega arith) (omega arith) (omega arith) _ (ap length (came .5) ∙ came .3 .given) (came .5 ∙ came .2 .ensures))
-    (λ came. folding-skip _ _ _ _ _ _ _ _ _ _ (c .before .before .before .before .loop .inv) _ _ _ (omega arith) (omega arith) (omega arith) _ _ (search needs) (c .before .span-is-blank .ensures) (came .0 .left) (came .1))
-    (c .if1 .came)
+owner-index-requires : tie.Need-owner-index-requires Inv-loop μ-loop
+owner-index-requires c κs = let s : tie.Start Inv-loop μ-loop = search in (s .pre .0 .ring .omf-below, s .pre .0 .ring .frames-few)
 
 same-length : tie.Need-same-length Inv-loop μ-loop
-same-length c = c .before .loop .inv .long
+same-length c = let l : tie.At-loop Inv-loop μ-loop = search in l .loop .inv .long
 
 returns : tie.Need-returns Inv-loop μ-loop
-returns c = folding-all _ _ _ _ _ _ _ _ (c .before .loop .inv) (omega arith)
+returns c = let t : tie.In-loop Inv-loop μ-loop = search in let f : tie.After-frame-at Inv-loop μ-loop = search in let o : tie.After-owner-index Inv-loop μ-loop = search in let e : tie.Then1 Inv-loop μ-loop = search in pages-stop _ _ _ _ _ _ _ _ _ _ (t .before .loop .inv) (t .loop-test .taken) _ _ _ (f .frame-at .ensures) refl (o .owner-index .ensures) (omega (arith, e .if1 .taken))
+
+fold-page-requires : tie.Need-fold-page-requires Inv-loop μ-loop
+fold-page-requires c κs = let s : tie.Start Inv-loop μ-loop = search in let t : tie.In-loop Inv-loop μ-loop = search in let f : tie.After-frame-at Inv-loop μ-loop = search in let o : tie.After-owner-index Inv-loop μ-loop = search in let e : tie.Else1 Inv-loop μ-loop = search in pages-ask _ _ _ _ _ _ _ _ _ _ (t .before .loop .inv) (t .loop-test .taken) _ _ _ (f .frame-at .ensures) refl (o .owner-index .ensures) _ (s .pre .0) (omega (arith, e .if1 .left, s .pre .1))
+
+add-i : tie.Need-add-i Inv-loop μ-loop
+add-i c = search needs
+
+loop-less : tie.Need-loop-less Inv-loop μ-loop
+loop-less c = omega arith
+
+loop-again : tie.Need-loop-again Inv-loop μ-loop
+loop-again c = let t : tie.In-loop Inv-loop μ-loop = search in let f : tie.After-frame-at Inv-loop μ-loop = search in let o : tie.After-owner-index Inv-loop μ-loop = search in let e : tie.Else1 Inv-loop μ-loop = search in let p : tie.After-fold-page Inv-loop μ-loop = search in pages-next _ _ _ _ _ _ _ _ _ _ (t .before .loop .inv) (t .loop-test .taken) _ _ _ (f .frame-at .ensures) refl (o .owner-index .ensures) (omega (arith, e .if1 .left)) _ (search needs) (p .fold-page .ensures)
+
+same-length-2 : tie.Need-same-length-2 Inv-loop μ-loop
+same-length-2 c = c .before .loop .inv .long
+
+returns-2 : tie.Need-returns-2 Inv-loop μ-loop
+returns-2 c = pages-end _ _ _ _ _ _ _ _ _ _ (c .before .loop .inv) (c .loop-test .left)
 
 pub fold-spec : {M : Type 1} → statement M
 fold-spec =
@@ -64,14 +63,16 @@ fold-spec =
     Inv-loop
     μ-loop
     loop-holds
-    sub-least
-    least-requires
-    mul-span-is-blank
-    mul-span-is-blank-2
-    span-is-blank-requires
-    fold-span-requires
-    add-block
+    frame-at-requires
+    cast-owner
+    mul-owner
+    shared-slice-read-owner
+    owner-index-requires
+    same-length
+    returns
+    fold-page-requires
+    add-i
     loop-less
     loop-again
-    same-length
-    returns)
+    same-length-2
+    returns-2)

@@ -1,5 +1,6 @@
 //! Every call on arbitrary state and memory, each judged by what document 01 fixes of it.
 use crate::call::{ask, Answer, Call};
+use crate::collect::collected_on_any;
 use crate::memory::Lengths;
 use crate::plain::{refusal, Facts, Plain, Settings};
 use crate::ring::{ends, ring_on_any, ring_on_well};
@@ -139,6 +140,9 @@ fn is_kept(stored: &Stored, before: &Stored, call: Call, need: Lengths) -> Resul
     let past = stored.memory.touched_past(&before.memory, need);
     if !past.is_empty() {
         return Err(format!("{past:?} past the need is touched"));
+    }
+    if let Call::Advance(k) = call {
+        collected_on_any(before, stored, k)?;
     }
     ring_on_any(before, stored, call)
 }

@@ -4,6 +4,7 @@
 
 mod arbitrary;
 mod call;
+mod collect;
 mod damage;
 mod edges;
 mod memory;

@@ -4,6 +4,7 @@ use crate::call::Call;
 use crate::rng::Rng;
 use crate::stored::Stored;
 use crate::wellformed::Storage;
+use vcm::State;
 
 /// A place is a frame and a block of 8 lines. This is how a page's owner names it.
 pub fn owner_of(frame: u32, block: u32) -> u32 {
@@ -14,6 +15,17 @@ pub fn owner_of(frame: u32, block: u32) -> u32 {
 pub fn ends(pages: u32, rng: &Rng) -> [u32; 5] {
     let other = rng.pick(&[rng.below(pages.max(1)), rng.odd_word()]);
     [0, pages.wrapping_sub(1), pages, u32::MAX, other]
+}
+
+/// The ring that the calls but CHECK see: a start past the pool counts as 0, more pages than there are as all.
+pub fn seen(state: &State) -> State {
+    let mut state = *state;
+    let registers = &mut state.registers;
+    if registers.first >= registers.pages {
+        registers.first = 0;
+    }
+    registers.used = registers.used.min(registers.pages);
+    state
 }
 
 impl Storage<'_> {
@@ -56,16 +68,10 @@ impl Storage<'_> {
         is_place && self.needed(self.owner_index(owner), block)
     }
 
-    /// The indexes of the owners' frames along the segment, as the calls see it: a start past the pool counts as 0, more pages than
-    /// there are as all.
-    fn indexes(&self) -> Vec<u32> {
-        let mut state = *self.state;
-        let registers = &mut state.registers;
-        if registers.first >= registers.pages {
-            registers.first = 0;
-        }
-        registers.used = registers.used.min(registers.pages);
-        let count = registers.used;
+    /// The indexes of the owners' frames along the segment, as the calls see it.
+    pub fn indexes(&self) -> Vec<u32> {
+        let state = seen(self.state);
+        let count = state.registers.used;
         let seen = Storage {
             state: &state,
             memory: self.memory,
@@ -100,14 +106,13 @@ fn ring_of(stored: &Stored) -> (u32, u32) {
 }
 
 /// What holds of `first` and `used` after an accepted call on any storage. RESET makes them 0. ROLLBACK leaves the start and adds no
-/// page; where the owners' indexes never fall it leaves just the pages of the kept frames. ADVANCE brings both within the pool. Of
-/// WRITE nothing is fixed, and the other calls leave them as they are.
+/// page; where the owners' indexes never fall it leaves just the pages of the kept frames. ADVANCE's are known (`collect`). Of WRITE
+/// nothing is fixed, and the other calls leave them as they are.
 pub fn ring_on_any(before: &Stored, after: &Stored, call: Call) -> Result<(), String> {
     let ((old, _), (first, used)) = (ring_of(before), ring_of(after));
-    let pages = after.state.registers.pages;
     let holds = match call {
         Call::Reset { .. } => (first, used) == (0, 0),
-        Call::Write { .. } => true,
+        Call::Write { .. } | Call::Advance(_) => true,
         Call::Rollback(k) => {
             let storage = before.storage();
             let indexes = storage.indexes();
@@ -116,7 +121,6 @@ pub fn ring_on_any(before: &Stored, after: &Stored, call: Call) -> Result<(), St
             let is_exact = !indexes.is_sorted() || used as usize == below;
             first == old && used as usize <= indexes.len() && is_exact
         }
-        Call::Advance(_) => first < pages && used <= pages,
         _ => ring_of(before) == ring_of(after),
     };
     if holds {

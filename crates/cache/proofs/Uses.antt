@@ -1,7 +1,7 @@
 -- A use of a line: the cache steps as Figure 3's, the entry taken has just what it was given, and no other entry changes.
 -- Assumes nothing.
 use mathlib.Core.Path.{_≡_, refl, sym, _∙_, ap, ap₂, subst, fun-ext}
-use mathlib.Core.Bool.{Bool, true, false, cond, _&&_, false≢true}
+use mathlib.Core.Bool.{Bool, true, false, cond, false≢true}
 use mathlib.Core.Logic.{_≢_}
 use mathlib.Core.Option.{Option, none, some}
 use mathlib.Core.List.{List}
@@ -17,13 +17,13 @@ use Rattle.rules.specs.Figure3 as figure
 use Rattle.rules.specs.Figure3.{Way, Ways, WellCache, setOf, emptyCache, use-line, wayFor}
 use Rattle.cache.specs.declared.Cache.{Cache}
 use Rattle.cache.specs.declared.Entry.the-variants.{Hit}
-use Rattle.cache.specs.Entries.{cacheOf, Sized, lineOf, frameOf, isValid, bytesOf, home, isAt, found, wayTaken, entryTaken, Has, SameAt, All, bytesIn, isAtIn, isValidIn}
+use Rattle.cache.specs.Entries.{cacheOf, Sized, lineOf, frameOf, isValid, bytesOf, home, found, wayTaken, entryTaken, Has, SameAt, All, bytesIn, isValidIn}
 use Rattle.cache.specs.Steps.{emptied, placed}
 use Rattle.cache.specs.Shown.{lineIn, wayOf, shown}
 use Rattle.frames.specs.Lines.{lineAt, pasteLine}
 use Rattle.frames.proofs.Lines.{paste-own, length-written, read-own, read-other, apart}
-use Rattle.cache.proofs.Returns.{entry-room, found-first, found-second, taken-first}
-use Rattle.cache.proofs.Hits.{at-is, found-at, way-below, taken-below, way-shown, line-taken}
+use Rattle.cache.proofs.Returns.{entry-room}
+use Rattle.cache.proofs.Hits.{found-at, way-below, taken-below, way-shown, line-taken}
 
 pub same-ways : {a b : Option ℕ} {p q : Option ℕ} {u v : Way} → a ≡ b → p ≡ q → u ≡ v
     → _≡_ {A = Ways} (record { first = a; second = p; last = u }) (record { first = b; second = q; last = v })
@@ -82,10 +82,6 @@ module _ (c : Cache) (s : Sized c) (l f : ℕ) (bytes : List ℕ) (n : length by
   in-same e d =
       ap₂ (λ (b : Bool) (x : ℕ). cond b (some x) none) (placed-same e d .valid) (placed-same e d .line)
 
-  at-same : (e : ℕ) → e ≢ entryTaken c l → isAt (placed c l f bytes) e l ≡ isAt c e l
-  unfolding isAtIn
-  at-same e d = ap₂ (λ (b : Bool) (x : ℕ). b && eqb l x) (placed-same e d .valid) (placed-same e d .line)
-
   -- a use is Figure 3's
   own-set : (w : ℕ) → wayTaken c l ≡ w → w < 2 → shown (placed c l f bytes) (setOf l) ≡ figure.placed l (wayOf w) (shown c (setOf l))
   unfolding shown placed figure.placed wayOf
@@ -113,30 +109,6 @@ module _ (c : Cache) (s : Sized c) (l f : ℕ) (bytes : List ℕ) (n : length by
           same-ways (in-same (2 * set) (λ d. apart (omega (arith, d, way-below c l))))
           (in-same (2 * set + 1) (λ d. apart (omega (arith, d, way-below c l))))
           (ap wayOf (getD-set-other (c .last) (setOf l) set (wayTaken c l) 0 (λ d. apart (sym d))))
-
-  -- after a use the line is found, in the entry taken
-  own-at : isAt (placed c l f bytes) (entryTaken c l) l ≡ true
-  own-at = at-is (placed c l f bytes) (entryTaken c l) l (placed-has .valid) (placed-has .line-is)
-
-  not-first : (b : Bool) → isAt c (home l) l ≡ b → wayTaken c l ≡ 1 → b ≡ false
-  not-first true e p = absurd (omega (arith, p, taken-first (c .lines) (c .valid) (c .last) l (isAt c (home l) l) refl e))
-  not-first false e p = refl
-
-  pub placed-found : found (placed c l f bytes) l ≡ Hit (entryTaken c l)
-  placed-found = go (wayTaken c l) refl (way-below c l)
-    where
-      go : (w : ℕ) → wayTaken c l ≡ w → w < 2 → found (placed c l f bytes) l ≡ Hit (entryTaken c l)
-      go zero p b =
-          let d : entryTaken c l ≡ home l = omega arith in
-          sym (found-first (placed c l f bytes .lines) (placed c l f bytes .valid) l (isAt (placed c l f bytes) (home l) l) refl (subst (λ (e : ℕ). isAt (placed c l f bytes) e l ≡ true) d own-at))
-          ∙ ap Hit (sym d)
-      go (suc zero) p b =
-          let d : entryTaken c l ≡ home l + 1 = omega arith in
-          sym (found-second (placed c l f bytes .lines) (placed c l f bytes .valid) l (isAt (placed c l f bytes) (home l) l) refl
-          (at-same (home l) (λ q. omega (arith, q)) ∙ not-first (isAt c (home l) l) refl p)
-          (isAt (placed c l f bytes) (home l + 1) l) refl (subst (λ (e : ℕ). isAt (placed c l f bytes) e l ≡ true) d own-at))
-          ∙ ap Hit (sym d)
-      go (suc (suc w)) p b = absurd (omega arith)
 
   -- What is true of every valid entry stays so, if it is true of the line placed and the new version takes nothing from other lines.
   pub placed-all : (R Q : ℕ → ℕ → List ℕ → Type 0) (t : Settings) → WellCache t (shown c) → All R c → Q l f bytes

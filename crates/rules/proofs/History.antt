@@ -57,9 +57,6 @@ module _ (l : ℕ) where
   in-own : (i : ℕ) → i < 16 → lineOf (l * 16 + i) ≡ l
   in-own i h = digits-div l h
 
-  step-in : (i n : ℕ) → i + suc n ≤ 16 → i + 1 + n ≤ 16
-  step-in i n h = omega arith
-
   bytes-other : (xs : List ℕ) (i k : ℕ) → k ≢ l → i + length xs ≤ 16 → touches (bytesFrom (l * 16 + i) xs) k ≡ false
   unfolding bytesFrom touches
   bytes-other [] i k d h = refl

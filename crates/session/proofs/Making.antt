@@ -1,5 +1,5 @@
 -- The calls made for lines, one after the other. Assumes nothing.
-use mathlib.Core.Path.{_≡_, sym, _∙_, ap}
+use mathlib.Core.Path.{sym, _∙_, ap}
 use mathlib.Core.List.{List, _++_, append-nil, append-assoc}
 use Rattle.rules.specs.Call.{Call}
 use Rattle.store.specs.Shown.{Kept}

@@ -106,9 +106,9 @@ usedState s used cache = stateOf (givenRegisters (s .registers) used) cache
 unfoldable pub readState : Storage → (line : ℕ) → State
 readState x l = usedState (x .state) (x .state .registers .used) (placed (x .state .cache) l (newestFrame x l) (latestIn x l))
 
--- On storage that CHECK passes.
+-- The registers stay on any storage, and the cache has the line on storage that CHECK passes.
 abbrev pub ReadTo : Storage → (line : ℕ) → State → Type 0
-ReadTo x l t = WellStore x → t ≡ readState x l
+ReadTo x l t = (t .registers ≡ x .state .registers) × (WellStore x → t ≡ readState x l)
 
 -- WRITE: the line's bytes after it. "its most recent version is copied there first".
 unfoldable pub contentAfter : Storage → (width address value : ℕ) → Line

@@ -9,14 +9,12 @@ use native.Mathlib.Decide.{ℕ-discrete}
 use native.Mathlib.Omega.{arith}
 use borrow.Author.Tests.{lt-ltb, not-true, not-false}
 use lib.Arith.{digits-div, digits-mod}
-use lib.Dec.{ltb}
 use lib.ListN.{length, getD}
 use Rattle.rules.specs.Seen.{needs}
 use Rattle.frames.specs.Circle.{indexOf, frameAt}
-use Rattle.frames.proofs.Circle.{frame-below}
 use Rattle.written.specs.Bits.{Written, AsksBlock, effective}
-use Rattle.pages.specs.Table.{blocksOf, placesOf, placeAt, entriesOf, entryOf, neededAt, AsksTable}
-use Rattle.pages.specs.Ring.{pageAt, positionOf, Backed, Paged, Rising, WellRing, ownerIndex, indexAt, owns, AsksRing}
+use Rattle.pages.specs.Table.{blocksOf, placeAt, entriesOf, entryOf, neededAt, AsksTable}
+use Rattle.pages.specs.Ring.{pageAt, positionOf, Paged, Rising, WellRing, ownerIndex, indexAt, owns}
 use Rattle.pages.proofs.Needs.{place-frame, place-block, entries-few, needed-block, needed-place}
 use Rattle.pages.proofs.Owning.{own-means, own-is}
 use Rattle.wellformed.specs.Decision.{Decides}

@@ -163,10 +163,3 @@ one-frame w block i j r d e = e ∙ (any-same 8 _ _ (λ n b. one (block * 8 + n)
         go true p = from-true i (i + 1) i (λ k. effective w k l) (omega arith) (omega arith) p
         go false p =
             from-false i (i + 1) (λ k. effective w k l) (λ k a b. ap (λ (z : ℕ). effective w z l) (le-antisymm (omega arith) a) ∙ p)
-
--- and one of the block's lines in it.
-pub line-found : (w : Written) (l i j : ℕ) (r : Bool) → i ≡ j → r ≡ runHas w l i (i + 1) → r ≡ true → true ≡ needs (effective w j) (l / 8)
-line-found w l i j r d e h =
-    let own : l ≡ l / 8 * 8 + l % 8 = omega arith in
-    one-frame w (l / 8) i j true d
-    (block-found w (l / 8) (l % 8) i (i + 1) i r (omega arith) (omega arith) (e ∙ ap (λ (m : ℕ). runHas w m i (i + 1)) own) h)

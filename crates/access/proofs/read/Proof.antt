@@ -68,7 +68,7 @@ returns-2 c =
     let at-admit-place : tie.After-admit-place = search in
     let at-measure : tie.After-measure = search in (
       hit-told _ _ _ _ (measured _ _ _ _ _ (at-measure .measure .ensures) (at-admit-place .admit-place .ensures)) (at-if1 .if1 .left) _ refl _ (at-find .find .ensures) _ (at-entry .entry .given .1) _ (c .before .before .before .line-at .ensures) _ (c .value-of .ensures) _ (c .before .recall .ensures),
-      λ z. hit-state _ _ _ _ (measured _ _ _ _ _ (at-measure .measure .ensures) (at-admit-place .admit-place .ensures)) (at-if1 .if1 .left) _ refl _ (at-find .find .ensures) _ (at-entry .entry .given .1) _ (c .before .before .before .line-at .ensures) _ (c .value-of .ensures) _ (c .before .recall .ensures),
+      λ z. (refl, hit-state _ _ _ _ (measured _ _ _ _ _ (at-measure .measure .ensures) (at-admit-place .admit-place .ensures)) (at-if1 .if1 .left) _ refl _ (at-find .find .ensures) _ (at-entry .entry .given .1) _ (c .before .before .before .line-at .ensures) _ (c .value-of .ensures) _ (c .before .recall .ensures)),
     )
 
 returns-3 : tie.Need-returns-3
@@ -80,7 +80,7 @@ returns-3 c =
     let at-admit-place : tie.After-admit-place = search in
     let at-measure : tie.After-measure = search in (
       miss-told _ _ _ _ (measured _ _ _ _ _ (at-measure .measure .ensures) (at-admit-place .admit-place .ensures)) (at-if1 .if1 .left) _ (at-live .live .ensures) _ (at-find .find .ensures) (at-enum-told .enum-told .given .1) _ (c .before .before .load .ensures .0) _ (c .value-of2 .ensures) _ (c .before .before .load .ensures .1),
-      λ z. miss-state _ _ _ _ (measured _ _ _ _ _ (at-measure .measure .ensures) (at-admit-place .admit-place .ensures)) (at-if1 .if1 .left) _ (at-live .live .ensures) _ (at-find .find .ensures) (at-enum-told .enum-told .given .1) _ (c .before .before .load .ensures .0) _ (c .value-of2 .ensures) _ (c .before .before .load .ensures .1),
+      λ z. (refl, miss-state _ _ _ _ (measured _ _ _ _ _ (at-measure .measure .ensures) (at-admit-place .admit-place .ensures)) (at-if1 .if1 .left) _ (at-live .live .ensures) _ (at-find .find .ensures) (at-enum-told .enum-told .given .1) _ (c .before .before .load .ensures .0) _ (c .value-of2 .ensures) _ (c .before .before .load .ensures .1)),
     )
 
 pub read-spec : {M : Type 1} → statement M

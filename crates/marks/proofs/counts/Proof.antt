@@ -1,6 +1,5 @@
 -- `marks::counts` meets its contract. Assumes nothing.
 use mathlib.Core.Path.{ap}
-use Prim.Native.Nat.{ℕ}
 use Rattle.pages.specs.declared.Ring.{Ring}
 use Rattle.storage.proofs.Admitting.{admitted-room, room-turn}
 use Rattle.storage.proofs.Chains.{measured}

@@ -1,7 +1,4 @@
 -- `records::number` meets its contract. Assumes nothing.
-use native.Mathlib.Omega.{arith}
-use mathlib.Core.Path.{_≡_}
-use lib.ListN.{length}
 use Rattle.records.proofs.Recording.{number-none, number-is, number-past}
 use borrow.Author.Needs.{needs}
 use Rattle.records.proofs.number.Statement.{statement}

@@ -1,5 +1,4 @@
 -- `runner::read_all` meets its contract, and ends: each turn leaves one fewer. Assumes nothing.
-use borrow.Author.Needs.{needs}
 use native.Mathlib.Omega.{arith}
 use mathlib.Core.Path.{_∙_, ap}
 use Rattle.rules.specs.Settings.{Pieces}

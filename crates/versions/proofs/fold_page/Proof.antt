@@ -35,7 +35,7 @@ loop-less : tie.Need-loop-less Inv-loop μ-loop
 loop-less c = omega arith
 
 loop-again : tie.Need-loop-again Inv-loop μ-loop
-loop-again c = let t : tie.In-loop Inv-loop μ-loop = search in let f : tie.After-fold-line Inv-loop μ-loop = search in lines-next _ _ _ _ _ _ _ _ (t .before .loop .inv) (t .loop-test .taken) _ (search needs) (f .fold-line .ensures)
+loop-again c = let t : tie.In-loop Inv-loop μ-loop = search in let f : tie.After-fold-line Inv-loop μ-loop = search in lines-next _ _ _ _ _ _ _ _ (t .before .loop .inv) (omega (arith, t .loop-test .taken)) _ (search needs) (f .fold-line .ensures)
 
 same-length : tie.Need-same-length Inv-loop μ-loop
 same-length c = c .before .loop .inv .long

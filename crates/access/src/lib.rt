@@ -2,7 +2,7 @@
 // that nothing of the cache is copied. `store` has the same calls on a whole
 // state by value, `vcm` exports them.
 use cache::Entry;
-use frames::Found;
+use numbers::Found;
 use storage::Registers;
 use storage::Step;
 use versions::Origin;
@@ -11,11 +11,11 @@ use versions::Version;
 ghost use mathlib.Core.Path.{_≡_};
 ghost use Rattle.rules.specs.Call.Answer.{outcome, lending};
 ghost use Rattle.rules.specs.Call.Look.{LINE, LINE-REFUSAL};
-ghost use Rattle.written.specs.Bits.{writtenOf};
+ghost use Rattle.written.specs.Bits.{writtenAt};
 ghost use Rattle.versions.specs.Newest.{originOf, newestOf, AsksNewest};
 ghost use Rattle.cache.specs.Entries.{cacheOf};
 ghost use Rattle.cache.specs.Steps.{placed};
-ghost use Rattle.storage.specs.Storage.{memoryOf, stateOf, storageOf};
+ghost use Rattle.storage.specs.Storage.{memoryOf, shapeAt, stateOf, storageOf};
 ghost use Rattle.storage.specs.Steps.{Put, AsksWrite};
 ghost use Rattle.storage.specs.Contracts.{Writes, Reads, Looks};
 
@@ -51,6 +51,7 @@ fn put_value(
         (cacheOf (now (held .exit)) (now (origins .exit)) (now (valid .exit)) (now (bytes .exit)) (now (last .exit))) (memoryOf (now (archive .entry)) (now (pool .exit)) (now (groups .exit)) (now (table .exit)) (now (owners .exit)) (now (history .entry))) ⌝ }
 {
     let line = address / 16;
+    let shape = storage::shape(registers);
     let latest = versions::latest(
         held,
         origins,
@@ -61,9 +62,7 @@ fn put_value(
         groups,
         table,
         history,
-        registers.lines,
-        registers.frames,
-        registers.omf,
+        shape,
         registers.pages,
         live,
         line,
@@ -76,9 +75,7 @@ fn put_value(
         table,
         owners,
         history,
-        registers.lines,
-        registers.frames,
-        registers.omf,
+        shape,
         registers.tag % 256,
         registers.pages,
         line,
@@ -118,7 +115,7 @@ pub fn write(
     if refusal != 0 {
         return Step { registers, refusal };
     }
-    let live = frames::live(registers.cmf, registers.omf, registers.frames);
+    let live = frames::live(registers.frames, registers.omf, registers.cmf);
     let ring = storage::ring(registers);
     let choice = versions::page_for(table, owners, ring, registers.cmf, address / 16);
     let found = choice.page;
@@ -172,8 +169,8 @@ fn load(
     live: u32,
     line: u32,
 ) -> Version
-    requires { ⌜ AsksNewest (writtenOf (registers .lines) (registers .frames) (registers .omf) (now groups) (now history)) (registers .pages) live line (now archive) (now pool) (now table) ⌝ }
-    ensures found { λ r. ⌜ r ≡ newestOf (writtenOf (registers .lines) (registers .frames) (registers .omf) (now (groups .entry)) (now (history .entry))) (registers .pages) live (now (archive .entry)) (now (pool .entry)) (now (table .entry)) line ⌝ }
+    requires { ⌜ AsksNewest (writtenAt (shapeAt registers) (now groups) (now history)) (registers .pages) live line (now archive) (now pool) (now table) ⌝ }
+    ensures found { λ r. ⌜ r ≡ newestOf (writtenAt (shapeAt registers) (now (groups .entry)) (now (history .entry))) (registers .pages) live (now (archive .entry)) (now (pool .entry)) (now (table .entry)) line ⌝ }
     ensures held { λ r. ⌜ (cacheOf (now (held .exit)) (now (origins .exit)) (now (valid .exit)) (now (bytes .exit)) (now (last .exit))) ≡ placed (cacheOf (now (held .entry)) (now (origins .entry)) (now (valid .entry)) (now (bytes .entry)) (now (last .entry))) line (r .frame) (r .content) ⌝ }
 {
     let version = versions::newest(
@@ -182,9 +179,7 @@ fn load(
         groups,
         table,
         history,
-        registers.lines,
-        registers.frames,
-        registers.omf,
+        storage::shape(registers),
         registers.pages,
         live,
         line,
@@ -246,7 +241,7 @@ pub fn read(
             }
         }
         Entry::Miss => {
-            let live = frames::live(registers.cmf, registers.omf, registers.frames);
+            let live = frames::live(registers.frames, registers.omf, registers.cmf);
             let version = load(
                 registers,
                 held,
@@ -291,35 +286,12 @@ pub fn line<'a>(
     if storage::admit_line(registers, lengths, line) != 0 {
         return &archive[0..0];
     }
-    let live = frames::live(registers.cmf, registers.omf, registers.frames);
-    let found = written::search(
-        groups,
-        history,
-        registers.lines,
-        registers.frames,
-        registers.omf,
-        line,
-        live - 1,
-    );
-    match versions::locate(
-        table,
-        registers.lines,
-        registers.frames,
-        registers.omf,
-        registers.pages,
-        line,
-        found,
-    ) {
-        Spot::Page(page) => {
-            let from = 128 * (page as usize) + 16 * ((line % 8) as usize);
-            let end = from + 16;
-            &pool[from..end]
-        }
-        Spot::Archive => {
-            let from = 16 * (line as usize);
-            let end = from + 16;
-            &archive[from..end]
-        }
+    let live = frames::live(registers.frames, registers.omf, registers.cmf);
+    let shape = storage::shape(registers);
+    let found = written::search(groups, history, shape, line, live - 1);
+    match versions::locate(table, shape, registers.pages, line, found) {
+        Spot::Page(page) => pages::lines::page_line(pool, page, line % 8),
+        Spot::Archive => pages::lines::archive_line(archive, line),
     }
 }
 

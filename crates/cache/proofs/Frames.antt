@@ -15,7 +15,7 @@ use Rattle.cache.specs.declared.Cache.{Cache}
 use Rattle.cache.specs.Entries.{Sized, lineOf, frameOf, isValid, bytesOf, All, bytesIn, isValidIn}
 use Rattle.cache.specs.Steps.{isDropped, flagAfter, flagsAfter, forgotten, frameAfter, framesAfter, collected}
 use Rattle.cache.specs.Shown.{lineIn, shown}
-use Rattle.frames.proofs.Lists.{rewrite-length, rewrite-past, rewrite-at}
+use Rattle.lists.proofs.Lists.{rewrite-length, rewrite-past, rewrite-at}
 use Rattle.cache.proofs.Hits.{valid-below}
 use Rattle.cache.proofs.Uses.{same-ways, carried}
 

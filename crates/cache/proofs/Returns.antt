@@ -12,8 +12,8 @@ use Rattle.frames.specs.Circle.{indexOf}
 use Rattle.cache.specs.declared.Cache.{Cache}
 use Rattle.cache.specs.declared.Entry.the-variants.{Hit, Miss}
 use Rattle.cache.specs.Entries.{home, wayTaken, foundIn, isAtIn, isValidIn, wayIn}
-use Rattle.frames.specs.Lists.{rewrite}
-use Rattle.frames.specs.Lines.{pasteLine}
+use Rattle.lists.specs.Lists.{rewrite}
+use Rattle.lists.specs.Lines.{pasteLine}
 use Rattle.cache.specs.Steps.{archiveFrame, placed, isBelow, isDropped, flagAfter, flagsAfter, frameAfter, framesAfter}
 
 module _ (valid : List ℕ) (e : ℕ) where

@@ -20,8 +20,8 @@ use Rattle.cache.specs.declared.Entry.the-variants.{Hit}
 use Rattle.cache.specs.Entries.{cacheOf, Sized, lineOf, frameOf, isValid, bytesOf, home, found, wayTaken, entryTaken, Has, SameAt, All, bytesIn, isValidIn}
 use Rattle.cache.specs.Steps.{emptied, placed}
 use Rattle.cache.specs.Shown.{lineIn, wayOf, shown}
-use Rattle.frames.specs.Lines.{lineAt, pasteLine}
-use Rattle.frames.proofs.Lines.{paste-own, length-written, read-own, read-other, apart}
+use Rattle.lists.specs.Lines.{lineAt, pasteLine}
+use Rattle.lists.proofs.Lines.{paste-own, length-written, read-own, read-other, apart}
 use Rattle.cache.proofs.Returns.{entry-room}
 use Rattle.cache.proofs.Hits.{found-at, way-below, taken-below, way-shown, line-taken}
 

@@ -5,8 +5,8 @@ use mathlib.Core.List.{List}
 use lib.Dec.{eqb, ltb}
 use lib.ListN.{getD, set, replicate}
 use Rattle.rules.specs.Figure3.{setOf}
-use Rattle.frames.specs.Lists.{rewrite}
-use Rattle.frames.specs.Lines.{pasteLine}
+use Rattle.lists.specs.Lists.{rewrite}
+use Rattle.lists.specs.Lines.{pasteLine}
 use Rattle.frames.specs.Circle.{indexOf}
 use Rattle.cache.specs.declared.Cache.{Cache}
 use Rattle.cache.specs.Entries.{cacheOf, wayTaken, entryTaken}

@@ -6,7 +6,7 @@ ghost use lib.ListN;
 ghost use lib.ListN.{length, getD};
 ghost use Rattle.rules.specs.Figure3.{emptyCache};
 ghost use Rattle.frames.specs.Circle.{Turn};
-ghost use Rattle.frames.specs.Lines.{pasteLine};
+ghost use Rattle.lists.specs.Lines.{pasteLine};
 ghost use Rattle.cache.specs.Entries.{cacheOf, isValidIn, bytesIn, bytesOf, isAtIn, foundIn, wayIn};
 ghost use Rattle.cache.specs.Steps.{emptied, placed, isBelow, flagAfter, flagsAfter, frameAfter, framesAfter};
 ghost use Rattle.cache.specs.Shown.{shown};
@@ -133,14 +133,7 @@ pub fn line_at(bytes: &[u8; 512], entry: u32) -> [u8; 16]
 {
     let all = *bytes;
     has_all(all);
-    let from = 16 * (entry as usize);
-    let mut line = [0u8; 16];
-    let mut i = 0;
-    while i < 16 {
-        line[i] = bytes[from + i];
-        i += 1;
-    }
-    line
+    lists::read_line(bytes, 16 * (entry as usize))
 }
 
 // The same of a whole cache.
@@ -194,12 +187,7 @@ fn set_bytes(bytes: &mut [u8; 512], entry: u32, line: [u8; 16])
 {
     let all = *bytes;
     has_all(all);
-    let from = 16 * (entry as usize);
-    let mut i = 0;
-    while i < 16 {
-        bytes[from + i] = line[i];
-        i += 1;
-    }
+    lists::write_line(bytes, 16 * (entry as usize), line);
 }
 
 // Notes the way of a set that was used last.
@@ -252,7 +240,7 @@ fn is_below(frame: u16, omf: u32, frames: u32, n: u32) -> bool
     if frames <= number {
         return false;
     }
-    if frames::index(number, omf, frames) < n {
+    if frames::index(frames, omf, number) < n {
         return true;
     }
     false

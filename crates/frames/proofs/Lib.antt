@@ -1,5 +1,1 @@
-pub mod Lists
-pub mod Lines
 pub mod Circle
-pub mod Search
-pub mod Digits

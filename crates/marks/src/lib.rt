@@ -62,15 +62,13 @@ pub fn rollback(
     if refusal != 0 {
         return Step { registers, refusal };
     }
-    let kept = frames::live(registers.cmf, registers.omf, registers.frames) - k;
+    let kept = frames::live(registers.frames, registers.omf, registers.cmf) - k;
     let ring = storage::ring(registers);
     let used = pages::segment::pages_below(owners, ring, kept);
     let tag = written::rollback(
         groups,
         history,
-        registers.lines,
-        registers.frames,
-        registers.omf,
+        ring.shape,
         registers.tag % 256,
         kept as u16,
     );
@@ -112,7 +110,7 @@ pub fn advance(
     cache::collect(origins, registers.omf, registers.frames, k);
     let omf = (registers.omf + k) % registers.frames;
     registers.omf = omf;
-    registers.first = pages::segment::page_at(ring, gone);
+    registers.first = pages::segment::nth_page(ring, gone);
     registers.used = ring.used - gone;
     Step {
         registers,
@@ -141,7 +139,7 @@ pub fn counts(
             pages: 0,
         };
     }
-    let live = frames::live(registers.cmf, registers.omf, registers.frames);
+    let live = frames::live(registers.frames, registers.omf, registers.cmf);
     let ring = storage::ring(registers);
     Counted {
         refusal: 0,

@@ -21,7 +21,7 @@ use Rattle.written.proofs.Setting.{set-effective, after}
 use Rattle.written.proofs.Rolling.{rolled, rolled-effective}
 use Rattle.written.proofs.Advancing.{Collected, advanced, advanced-effective, index-kept, frame-kept}
 use Rattle.pages.specs.Table.{blocksOf, placesOf, placeAt, entriesOf, entryOf, neededAt}
-use Rattle.pages.specs.Ring.{pageAt, Leading, Splits, ownerIndex, indexAt, WellRing}
+use Rattle.pages.specs.Ring.{nthPage, Leading, Splits, ownerIndex, indexAt, WellRing}
 use Rattle.pages.proofs.Needs.{needed-block, needed-line, line-needed}
 use Rattle.pages.proofs.Halving.{index-own}
 use Rattle.pages.proofs.Moves.{claimed-ring, same-ring, kept-ring, passed-ring, empty-ring}
@@ -123,7 +123,7 @@ module _ (w : Written) (lent : Lent w) (k : ℕ) (below : k < w .frames) (groups
       omega (arith, before-is x b, after-is x b, index-down (x / 512) (omega arith) (omega (arith, before-is x b)))
 
   pub advanced-ring : (pages first used gone : ℕ) (table owners : List ℕ) → WellRing w pages first used table owners
-      → Splits used (indexAt (w .frames) (w .omf) pages first owners) k gone → WellRing on pages (pageAt pages first gone) (used - gone) table owners
+      → Splits used (indexAt (w .frames) (w .omf) pages first owners) k gone → WellRing on pages (nthPage pages first gone) (used - gone) table owners
   unfolding indexAt
   advanced-ring pages first used gone table owners o parts =
       passed-ring (neededAt w) (neededAt on) (placesOf w) pages first used gone k _ _ _ _ o parts advanced-only advanced-keeps advanced-down
@@ -196,7 +196,7 @@ module _ (w : Written) (tag l i : ℕ) (a : Asks w l i) (small : tag < 256) (ope
   -- and one that has none gets the page behind the segment.
   pub put-ring : (live pages first used : ℕ) (table owners : List ℕ) → WellBits w tag live → i + 1 ≡ live → entriesOf w ≤ length table → pages ≤ length owners → used < pages
       → neededAt w place ≡ false → WellRing w pages first used table owners
-      → WellRing then pages first (used + 1) (set table (entryOf w place) (pageAt pages first used)) (set owners (pageAt pages first used) place)
+      → WellRing then pages first (used + 1) (set table (entryOf w place) (nthPage pages first used)) (set owners (nthPage pages first used) place)
   put-ring live pages first used table owners q top long few room new r =
       claimed-ring (neededAt w) (neededAt then) (placesOf w) pages first used place table owners (entryOf w) _ r room place-below entry-below few apart set-then set-only set-grows newest
     where

@@ -13,7 +13,7 @@ use lib.Seq.{getD-set-same, getD-set-other}
 use Rattle.rules.specs.Seen.{count}
 use Rattle.frames.specs.Circle.{frameAt}
 use Rattle.frames.proofs.Circle.{frame-below, index-frame, frame-index}
-use Rattle.pages.specs.Ring.{pageAt, positionOf, Backed, Paged, Rising, Segment, Splits}
+use Rattle.pages.specs.Ring.{nthPage, positionOf, Backed, Paged, Rising, Segment, Splits}
 use Rattle.pages.proofs.Counting.{count-names}
 
 -- What a segment says.
@@ -32,22 +32,22 @@ module _ {need : ℕ → Bool} {places pages first used : ℕ} {table owners ind
   one-page x y a m b n e = sym (r .paged x a m .back) ∙ (ap owners e ∙ r .paged y b n .back)
 
   -- The page behind the segment is no needed place's.
-  pub next-free : (x : ℕ) → x < places → need x ≡ true → used < pages → table x ≢ pageAt pages first used
+  pub next-free : (x : ℕ) → x < places → need x ≡ true → used < pages → table x ≢ nthPage pages first used
   next-free x b n room e =
       omega (arith, r .paged x b n .inside, ap (positionOf pages first) e, index-frame pages first (r .first-below) used room)
 
   -- The segment is as long as places are needed: COUNTS, and 13 where it goes all round.
   pub segment-count : used ≡ count places need
   segment-count =
-      count-names places need used (λ i. owners (pageAt pages first i)) (λ i b. (r .backed i b .owner-below, r .backed i b .needed)) once all
+      count-names places need used (λ i. owners (nthPage pages first i)) (λ i b. (r .backed i b .owner-below, r .backed i b .needed)) once all
     where
-      once : (i j : ℕ) → i < used → j < used → owners (pageAt pages first i) ≡ owners (pageAt pages first j) → i ≡ j
+      once : (i j : ℕ) → i < used → j < used → owners (nthPage pages first i) ≡ owners (nthPage pages first j) → i ≡ j
       once i j a b e =
-          let same : pageAt pages first i ≡ pageAt pages first j = sym (r .backed i a .back) ∙ (ap table e ∙ r .backed j b .back) in
+          let same : nthPage pages first i ≡ nthPage pages first j = sym (r .backed i a .back) ∙ (ap table e ∙ r .backed j b .back) in
           sym (index-frame pages first (r .first-below) i (omega (arith, r .used-few)))
           ∙ (ap (positionOf pages first) same ∙ index-frame pages first (r .first-below) j (omega (arith, r .used-few)))
 
-      all : (x : ℕ) → x < places → need x ≡ true → (i : ℕ) × (i < used) × (owners (pageAt pages first i) ≡ x)
+      all : (x : ℕ) → x < places → need x ≡ true → (i : ℕ) × (i < used) × (owners (nthPage pages first i) ≡ x)
       all x b n =
           let k = r .paged x b n in
           (positionOf pages first (table x), k .inside, ap owners (frame-index pages first (r .first-below) (table x) (k .page-below)) ∙ k .back)
@@ -56,26 +56,26 @@ module _ {need : ℕ → Bool} {places pages first used : ℕ} {table owners ind
 module _ (need more : ℕ → Bool) (places pages first used x : ℕ) (table owners index table' owners' : ℕ → ℕ) (r : Segment need places pages first used table owners index)
     (room : used < pages) (below : x < places) (then : more x ≡ true) (only : (y : ℕ) → y < places → y ≢ x → more y ≡ true → need y ≡ true) (grows : (y : ℕ) → y < places → need y ≡ true → more y ≡ true)
     (newest : (y : ℕ) → y < places → need y ≡ true → index y ≤ index x)
-    (entry : table' x ≡ pageAt pages first used) (entries : (y : ℕ) → y < places → need y ≡ true → table' y ≡ table y)
-    (owner : owners' (pageAt pages first used) ≡ x) (others : (q : ℕ) → q ≢ pageAt pages first used → owners' q ≡ owners q) where
-  apart : (i : ℕ) → i < used → pageAt pages first i ≢ pageAt pages first used
+    (entry : table' x ≡ nthPage pages first used) (entries : (y : ℕ) → y < places → need y ≡ true → table' y ≡ table y)
+    (owner : owners' (nthPage pages first used) ≡ x) (others : (q : ℕ) → q ≢ nthPage pages first used → owners' q ≡ owners q) where
+  apart : (i : ℕ) → i < used → nthPage pages first i ≢ nthPage pages first used
   apart i b e =
       absurd (omega (arith, index-frame pages first (r .first-below) i (omega arith), index-frame pages first (r .first-below) used room, ap (positionOf pages first) e))
 
-  given-backed : (i : ℕ) → i < used + 1 → Backed more places table' owners' (pageAt pages first i)
+  given-backed : (i : ℕ) → i < used + 1 → Backed more places table' owners' (nthPage pages first i)
   given-backed i b = go (ℕ-discrete i used)
     where
-      go : Dec (i ≡ used) → Backed more places table' owners' (pageAt pages first i)
+      go : Dec (i ≡ used) → Backed more places table' owners' (nthPage pages first i)
       go (yes e) =
-          let o : owners' (pageAt pages first i) ≡ x = ap (λ (k : ℕ). owners' (pageAt pages first k)) e ∙ owner in
-          record { owner-below = omega (arith, o); needed = ap more o ∙ then; back = ap table' o ∙ (entry ∙ ap (pageAt pages first) (sym e)) }
+          let o : owners' (nthPage pages first i) ≡ x = ap (λ (k : ℕ). owners' (nthPage pages first k)) e ∙ owner in
+          record { owner-below = omega (arith, o); needed = ap more o ∙ then; back = ap table' o ∙ (entry ∙ ap (nthPage pages first) (sym e)) }
       go (no d) =
           let k = r .backed i (omega arith) in
-          let o = others (pageAt pages first i) (apart i (omega arith)) in
+          let o = others (nthPage pages first i) (apart i (omega arith)) in
           record {
             owner-below = omega (arith, o, k .owner-below);
-            needed = ap more o ∙ grows (owners (pageAt pages first i)) (k .owner-below) (k .needed);
-            back = ap table' o ∙ (entries (owners (pageAt pages first i)) (k .owner-below) (k .needed) ∙ k .back);
+            needed = ap more o ∙ grows (owners (nthPage pages first i)) (k .owner-below) (k .needed);
+            back = ap table' o ∙ (entries (owners (nthPage pages first i)) (k .owner-below) (k .needed) ∙ k .back);
           }
 
   given-paged : (y : ℕ) → y < places → more y ≡ true → Paged pages first (used + 1) table' owners' y
@@ -83,7 +83,7 @@ module _ (need more : ℕ → Bool) (places pages first used x : ℕ) (table own
     where
       go : Dec (y ≡ x) → Paged pages first (used + 1) table' owners' y
       go (yes e) =
-          let t : table' y ≡ pageAt pages first used = ap table' e ∙ entry in
+          let t : table' y ≡ nthPage pages first used = ap table' e ∙ entry in
           record {
             page-below = omega (arith, t, frame-below pages first (r .first-below) used);
             inside = omega (arith, ap (positionOf pages first) t, index-frame pages first (r .first-below) used room);
@@ -93,7 +93,7 @@ module _ (need more : ℕ → Bool) (places pages first used x : ℕ) (table own
           let was = only y b d n in
           let k = r .paged y b was in
           let t = entries y b was in
-          let far : table y ≢ pageAt pages first used =
+          let far : table y ≢ nthPage pages first used =
           λ z. absurd (omega (arith, k .inside, ap (positionOf pages first) z, index-frame pages first (r .first-below) used room))
           in
           record {
@@ -102,20 +102,20 @@ module _ (need more : ℕ → Bool) (places pages first used x : ℕ) (table own
             back = ap owners' t ∙ (others (table y) far ∙ k .back);
           }
 
-  old-index : (i : ℕ) → i < used → index (owners' (pageAt pages first i)) ≡ index (owners (pageAt pages first i))
-  old-index i b = ap index (others (pageAt pages first i) (apart i b))
+  old-index : (i : ℕ) → i < used → index (owners' (nthPage pages first i)) ≡ index (owners (nthPage pages first i))
+  old-index i b = ap index (others (nthPage pages first i) (apart i b))
 
-  given-rising : Rising (used + 1) (λ i. index (owners' (pageAt pages first i)))
+  given-rising : Rising (used + 1) (λ i. index (owners' (nthPage pages first i)))
   given-rising i j a b = go (ℕ-discrete j used) (ℕ-discrete i used)
     where
-      last : (k : ℕ) → k ≡ used → index (owners' (pageAt pages first k)) ≡ index x
-      last k e = ap index (ap (λ (m : ℕ). owners' (pageAt pages first m)) e ∙ owner)
+      last : (k : ℕ) → k ≡ used → index (owners' (nthPage pages first k)) ≡ index x
+      last k e = ap index (ap (λ (m : ℕ). owners' (nthPage pages first m)) e ∙ owner)
 
-      go : Dec (j ≡ used) → Dec (i ≡ used) → index (owners' (pageAt pages first i)) ≤ index (owners' (pageAt pages first j))
+      go : Dec (j ≡ used) → Dec (i ≡ used) → index (owners' (nthPage pages first i)) ≤ index (owners' (nthPage pages first j))
       go (yes e) (yes d) = omega (arith, last i d, last j e)
       go (yes e) (no d) =
           let k = r .backed i (omega arith) in
-          omega (arith, last j e, old-index i (omega arith), newest (owners (pageAt pages first i)) (k .owner-below) (k .needed))
+          omega (arith, last j e, old-index i (omega arith), newest (owners (nthPage pages first i)) (k .owner-below) (k .needed))
       go (no e) (yes d) = absurd (omega arith)
       go (no e) (no d) = omega (arith, old-index i (omega arith), old-index j (omega arith), r .rising i j a (omega arith))
 
@@ -128,13 +128,13 @@ pub claimed-ring : (need more : ℕ → Bool) (places pages first used x : ℕ) 
     → Segment need places pages first used (λ y. getD table (at y) 0) (λ q. getD owners q 0) index → used < pages → x < places → at x < length table → pages ≤ length owners
     → ((y : ℕ) → y < places → need y ≡ true → at y ≢ at x) → more x ≡ true → ((y : ℕ) → y < places → y ≢ x → more y ≡ true → need y ≡ true)
     → ((y : ℕ) → y < places → need y ≡ true → more y ≡ true) → ((y : ℕ) → y < places → need y ≡ true → index y ≤ index x)
-    → Segment more places pages first (used + 1) (λ y. getD (set table (at x) (pageAt pages first used)) (at y) 0) (λ q. getD (set owners (pageAt pages first used) x) q 0) index
+    → Segment more places pages first (used + 1) (λ y. getD (set table (at x) (nthPage pages first used)) (at y) 0) (λ q. getD (set owners (nthPage pages first used) x) q 0) index
 claimed-ring need more places pages first used x table owners at index r room below few long apart then only grows newest =
     given-ring need more places pages first used x _ _ index _ _ r room below then only grows newest
-    (getD-set-same table (at x) (pageAt pages first used) 0 few)
-    (λ y b n. getD-set-other table (at x) (at y) (pageAt pages first used) 0 (apart y b n))
-    (getD-set-same owners (pageAt pages first used) x 0 (omega (arith, frame-below pages first (r .first-below) used)))
-    (λ q d. getD-set-other owners (pageAt pages first used) q x 0 d)
+    (getD-set-same table (at x) (nthPage pages first used) 0 few)
+    (λ y b n. getD-set-other table (at x) (at y) (nthPage pages first used) 0 (apart y b n))
+    (getD-set-same owners (nthPage pages first used) x 0 (omega (arith, frame-below pages first (r .first-below) used)))
+    (λ q d. getD-set-other owners (nthPage pages first used) q x 0 d)
 
 -- A write to a place that has its page: the same places are needed.
 pub same-ring : (need more : ℕ → Bool) (places pages first used : ℕ) (table owners index : ℕ → ℕ) → Segment need places pages first used table owners index
@@ -153,7 +153,7 @@ same-ring need more places pages first used table owners index r only grows =
 
 -- A rollback: the places with an index below the limit stay, and the segment ends where the owners' indexes reach it.
 module _ (need less : ℕ → Bool) (places pages first used kept limit : ℕ) (table owners index : ℕ → ℕ) (r : Segment need places pages first used table owners index)
-    (s : Splits used (λ i. index (owners (pageAt pages first i))) limit kept)
+    (s : Splits used (λ i. index (owners (nthPage pages first i))) limit kept)
     (only : (x : ℕ) → x < places → less x ≡ true → (need x ≡ true) × (index x < limit))
     (keeps : (x : ℕ) → x < places → need x ≡ true → index x < limit → less x ≡ true) where
   kept-paged : (x : ℕ) → x < places → less x ≡ true → Paged pages first kept table owners x
@@ -187,23 +187,23 @@ module _ (need less : ℕ → Bool) (places pages first used kept limit : ℕ) (
       }
 
 -- The page at a position after the segment's start has moved on.
-page-on : (pages first k i : ℕ) → pageAt pages (pageAt pages first k) i ≡ pageAt pages first (k + i)
+page-on : (pages first k i : ℕ) → nthPage pages (nthPage pages first k) i ≡ nthPage pages first (k + i)
 unfolding frameAt
 page-on pages first k i = mod-add-mod (first + k) pages i ∙ ap (λ (x : ℕ). x % pages) (add-assoc first k i)
 
 -- An advance: the places with an index below k are gone, the others' indexes go down by k, and the segment starts behind the pages that are gone.
 module _ (need less : ℕ → Bool) (places pages first used gone k : ℕ) (table owners index index' : ℕ → ℕ) (r : Segment need places pages first used table owners index)
-    (s : Splits used (λ i. index (owners (pageAt pages first i))) k gone)
+    (s : Splits used (λ i. index (owners (nthPage pages first i))) k gone)
     (only : (x : ℕ) → x < places → less x ≡ true → (need x ≡ true) × (k ≤ index x))
     (keeps : (x : ℕ) → x < places → need x ≡ true → k ≤ index x → less x ≡ true)
     (down : (x : ℕ) → x < places → need x ≡ true → k ≤ index x → k + index' x ≡ index x) where
   abbrev start : ℕ
-  start = pageAt pages first gone
+  start = nthPage pages first gone
 
   start-below : start < pages
   start-below = frame-below pages first (r .first-below) gone
 
-  on : (i : ℕ) → pageAt pages start i ≡ pageAt pages first (gone + i)
+  on : (i : ℕ) → nthPage pages start i ≡ nthPage pages first (gone + i)
   on i = page-on pages first gone i
 
   -- a position counted from the new start
@@ -211,14 +211,14 @@ module _ (need less : ℕ → Bool) (places pages first used gone k : ℕ) (tabl
   position-on p b a c =
       let i : ℕ = positionOf pages first p - gone in
       let whole : gone + i ≡ positionOf pages first p = omega arith in
-      let here : pageAt pages start i ≡ p = on i ∙ (ap (pageAt pages first) whole ∙ frame-index pages first (r .first-below) p b) in
+      let here : nthPage pages start i ≡ p = on i ∙ (ap (nthPage pages first) whole ∙ frame-index pages first (r .first-below) p b) in
       let same : positionOf pages start p ≡ i = ap (positionOf pages start) (sym here) ∙ index-frame pages start start-below i (omega (arith, r .used-few)) in
       omega arith
 
-  passed-backed : (i : ℕ) → i < used - gone → Backed less places table owners (pageAt pages start i)
+  passed-backed : (i : ℕ) → i < used - gone → Backed less places table owners (nthPage pages start i)
   passed-backed i b =
       let h = r .backed (gone + i) (omega arith) in
-      let o : owners (pageAt pages start i) ≡ owners (pageAt pages first (gone + i)) = ap owners (on i) in
+      let o : owners (nthPage pages start i) ≡ owners (nthPage pages first (gone + i)) = ap owners (on i) in
       record {
         owner-below = omega (arith, o, h .owner-below);
         needed = ap less o ∙ keeps _ (h .owner-below) (h .needed) (s .high (gone + i) (omega arith) (omega arith));
@@ -243,12 +243,12 @@ module _ (need less : ℕ → Bool) (places pages first used gone k : ℕ) (tabl
             ap index (h .back),
           ))
 
-  lowered : (i : ℕ) → i < used - gone → k + index' (owners (pageAt pages start i)) ≡ index (owners (pageAt pages first (gone + i)))
+  lowered : (i : ℕ) → i < used - gone → k + index' (owners (nthPage pages start i)) ≡ index (owners (nthPage pages first (gone + i)))
   lowered i b =
       let h = r .backed (gone + i) (omega arith) in
       ap (λ (q : ℕ). k + index' (owners q)) (on i) ∙ down _ (h .owner-below) (h .needed) (s .high (gone + i) (omega arith) (omega arith))
 
-  passed-rising : Rising (used - gone) (λ i. index' (owners (pageAt pages start i)))
+  passed-rising : Rising (used - gone) (λ i. index' (owners (nthPage pages start i)))
   passed-rising i j a b = omega (arith, lowered i (omega arith), lowered j b, r .rising (gone + i) (gone + j) (omega arith) (omega arith))
 
   pub passed-ring : Segment less places pages start (used - gone) table owners index'

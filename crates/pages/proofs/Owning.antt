@@ -10,8 +10,8 @@ use lib.Dec.{ltb, eqb}
 use lib.ListN.{getD}
 use Rattle.rules.proofs.Tests.{both-true}
 use Rattle.frames.specs.Circle.{indexOf, frameAt}
-use Rattle.frames.specs.declared.Found.the-variants.{At, Nothing}
-use Rattle.pages.specs.Ring.{pageAt, positionOf, owns, nextPage}
+use Rattle.numbers.specs.declared.Found.the-variants.{At, Nothing}
+use Rattle.pages.specs.Ring.{nthPage, positionOf, owns, nextPage}
 
 module _ (pages first used : ℕ) (owners : List ℕ) (page place : ℕ) where
   abbrev inside : Bool
@@ -50,7 +50,7 @@ module _ (pages first used : ℕ) (owners : List ℕ) (page place : ℕ) where
       (ap₂ (λ (s t : Bool). s && t) (lt-ltb (positionOf pages first page) used c) (eq-eqb (getD owners page 0) place e))
 
 -- All round the circle is the start again.
-pub page-round : (pages first i : ℕ) → first < pages → pages ≤ i → i ≤ pages → first ≡ pageAt pages first i
+pub page-round : (pages first i : ℕ) → first < pages → pages ≤ i → i ≤ pages → first ≡ nthPage pages first i
 unfolding frameAt
 page-round pages first i h b c =
     let all : i ≡ pages = omega arith in
@@ -59,8 +59,8 @@ page-round pages first i h b c =
 module _ (pages first used : ℕ) where
   pub next-some : (p : ℕ) → used < pages → p ≡ frameAt pages first used → At p ≡ nextPage pages first used
   unfolding nextPage
-  next-some p b e = ap At e ∙ sym (ap (λ (t : Bool). cond t (At (pageAt pages first used)) Nothing) (lt-ltb used pages b))
+  next-some p b e = ap At e ∙ sym (ap (λ (t : Bool). cond t (At (nthPage pages first used)) Nothing) (lt-ltb used pages b))
 
   pub next-none : pages ≤ used → Nothing ≡ nextPage pages first used
   unfolding nextPage
-  next-none b = sym (ap (λ (t : Bool). cond t (At (pageAt pages first used)) Nothing) (le-ltb used pages b))
+  next-none b = sym (ap (λ (t : Bool). cond t (At (nthPage pages first used)) Nothing) (le-ltb used pages b))

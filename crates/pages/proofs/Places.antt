@@ -8,9 +8,9 @@ use native.Mathlib.Omega.{arith}
 use borrow.Rule.Slice.PartMut.{midOf, postOf, putMid, mid-len}
 use lib.ListN.{length, take, drop, take-append-drop}
 use lib.Seq.{length-take-le, drop-drop}
-use Rattle.frames.specs.Lines.{lineAt, pasteLine}
-use Rattle.frames.proofs.Lines.{line-front, paste-front, paste-behind, read-other, apart}
-use Rattle.pages.specs.Lines.{lineIn, withLine, pageLine, withPageLine, archiveLine, withArchiveLine, AsksPage}
+use Rattle.lists.specs.Lines.{lineAt, pasteLine}
+use Rattle.lists.proofs.Lines.{line-front, paste-front, paste-behind, read-other, apart}
+use Rattle.pages.specs.Lines.{pageLine, withPageLine, archiveLine, withArchiveLine, AsksPage}
 
 -- ---- the k bytes from a on, as a part
 module _ (a k at : ℕ) (xs : List ℕ) (room : at + 16 ≤ length (midOf a k xs)) where
@@ -34,14 +34,21 @@ module _ (pool : List ℕ) (page slot : ℕ) (asks : AsksPage page slot (length 
   part-room : 16 * slot + 16 ≤ length (midOf (128 * page) (length pool - 128 * page) pool)
   part-room = omega (arith, asks .room, asks .slot-below, mid-len (128 * page) (length pool) pool (omega arith))
 
-  pub page-read : (r : List ℕ) → r ≡ lineIn (midOf (128 * page) (length pool - 128 * page) pool) slot → r ≡ pageLine pool page slot
+  pub page-read : (r : List ℕ) → r ≡ lineAt (midOf (128 * page) (length pool - 128 * page) pool) (16 * slot) → r ≡ pageLine pool page slot
   page-read r e = e ∙ line-in-part (128 * page) (length pool - 128 * page) (16 * slot) pool part-room
 
-  pub page-written : (x now : List ℕ) → now ≡ withLine (midOf (128 * page) (length pool - 128 * page) pool) slot x
+  pub page-written : (x now : List ℕ) → now ≡ pasteLine (midOf (128 * page) (length pool - 128 * page) pool) (16 * slot) x
       → putMid (128 * page) (length pool - 128 * page) pool now ≡ withPageLine pool page slot x
   page-written x now e =
       ap (putMid (128 * page) (length pool - 128 * page) pool) e
       ∙ paste-in-part (128 * page) (length pool - 128 * page) (16 * slot) pool part-room x (omega (arith, asks .room))
+
+  -- the part of 16 bytes that is lent, by its two ends
+  pub page-lent : take (128 * page + 16 * slot + 16 - (128 * page + 16 * slot)) (drop (128 * page + 16 * slot) pool) ≡ pageLine pool page slot
+  unfolding lineAt
+  page-lent =
+      let n : 128 * page + 16 * slot + 16 - (128 * page + 16 * slot) ≡ 16 = omega arith in
+      ap (λ (k : ℕ). take k (drop (128 * page + 16 * slot) pool)) n
 
 archive-place : (line : ℕ) → 128 * (line / 8) + 16 * (line % 8) ≡ 16 * line
 archive-place line = omega arith

@@ -1,22 +1,14 @@
--- Lines in lists of bytes: in a part, in the pool and in the archive.
+-- Lines of the pool and of the archive.
 use Prim.Native.Nat.{ℕ, _+_, _*_, _≤_, _<_}
 use mathlib.Core.List.{List}
 use Rattle.rules.specs.Line.{Line, blockOf}
-use Rattle.frames.specs.Lines.{lineAt, pasteLine}
+use Rattle.lists.specs.Lines.{lineAt, pasteLine}
 
--- "A page holds 8 neighbouring lines": the line in a slot of the page that a part starts with.
-abbrev pub lineIn : (part : List ℕ) (slot : ℕ) → Line
-lineIn part slot = lineAt part (16 * slot)
-
--- "The pool's part starting at a page's first byte is handed on to the line reader and copier": what the copier leaves in the part.
-abbrev pub withLine : (part : List ℕ) (slot : ℕ) → Line → List ℕ
-withLine part slot x = pasteLine part (16 * slot) x
-
--- "P data pages of 128 bytes": the line in a slot of a page of the pool.
+-- "P data pages of 128 bytes", "A page holds 8 neighbouring lines": the line in a slot of a page of the pool.
 abbrev pub pageLine : (pool : List ℕ) (page slot : ℕ) → Line
 pageLine pool page slot = lineAt pool (128 * page + 16 * slot)
 
--- "the pool of 128 × P bytes": the pool with a line copied to a slot of a page.
+-- "The pool's part starting at a page's first byte is handed on to the line reader and copier": the pool with a line copied to a slot of a page.
 abbrev pub withPageLine : (pool : List ℕ) (page slot : ℕ) → Line → List ℕ
 withPageLine pool page slot x = pasteLine pool (128 * page + 16 * slot) x
 
@@ -27,11 +19,6 @@ archiveLine archive line = lineAt archive (16 * line)
 -- "folds the k oldest frames into the archive": the archive with a content copied to a line of it.
 abbrev pub withArchiveLine : (archive : List ℕ) (line : ℕ) → Line → List ℕ
 withArchiveLine archive line x = pasteLine archive (16 * line) x
-
--- What is asked of a slot and the length of a part: the page's line lies in it.
-pub record AsksSlot (slot long : ℕ) : Type 0 where
-  pub slot-below : slot < 8
-  pub room : 16 * slot + 16 ≤ long
 
 -- What is asked of a page and the length of the pool: "P is 1 to 4,096".
 pub record AsksPage (page slot long : ℕ) : Type 0 where

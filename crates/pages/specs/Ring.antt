@@ -7,14 +7,14 @@ use mathlib.Core.List.{List}
 use lib.Dec.{ltb, eqb}
 use lib.ListN.{getD}
 use Rattle.frames.specs.Circle.{indexOf, frameAt}
-use Rattle.frames.specs.declared.Found.{Found}
-use Rattle.frames.specs.declared.Found.the-variants.{At, Nothing}
+use Rattle.numbers.specs.declared.Found.{Found}
+use Rattle.numbers.specs.declared.Found.the-variants.{At, Nothing}
 use Rattle.written.specs.Bits.{Written}
 use Rattle.pages.specs.Table.{placesOf, entryOf, neededAt}
 
 -- The page at a position of the segment, counted from its oldest page, and a page's position: pages turn as frames do.
-abbrev pub pageAt : (pages first i : ℕ) → ℕ
-pageAt pages first i = frameAt pages first i
+abbrev pub nthPage : (pages first i : ℕ) → ℕ
+nthPage pages first i = frameAt pages first i
 
 abbrev pub positionOf : (pages first page : ℕ) → ℕ
 positionOf pages first page = indexOf pages first page
@@ -25,7 +25,7 @@ ownerIndex frames omf owner = cond (ltb (owner / 512) frames) (indexOf frames om
 
 -- That of the owner at a position.
 unfoldable pub indexAt : (frames omf pages first : ℕ) (owners : List ℕ) → ℕ → ℕ
-indexAt frames omf pages first owners i = ownerIndex frames omf (getD owners (pageAt pages first i) 0)
+indexAt frames omf pages first owners i = ownerIndex frames omf (getD owners (nthPage pages first i) 0)
 
 -- A page's owner is a place that is needed and for which the table has the page.
 pub record Backed (need : ℕ → Bool) (places : ℕ) (table owners : ℕ → ℕ) (p : ℕ) : Type 0 where
@@ -47,9 +47,9 @@ Rising n f = (i j : ℕ) → i ≤ j → j < n → f i ≤ f j
 pub record Segment (need : ℕ → Bool) (places pages first used : ℕ) (table owners index : ℕ → ℕ) : Type 0 where
   pub first-below : first < pages
   pub used-few : used ≤ pages
-  pub backed : (i : ℕ) → i < used → Backed need places table owners (pageAt pages first i)
+  pub backed : (i : ℕ) → i < used → Backed need places table owners (nthPage pages first i)
   pub paged : (x : ℕ) → x < places → need x ≡ true → Paged pages first used table owners x
-  pub rising : Rising used (λ i. index (owners (pageAt pages first i)))
+  pub rising : Rising used (λ i. index (owners (nthPage pages first i)))
 
 -- The same of the written bits, the table and the owners.
 abbrev pub WellRing : Written → (pages first used : ℕ) (table owners : List ℕ) → Type 0
@@ -63,7 +63,7 @@ owns pages first used owners page place =
 
 -- The page that is given out: the one behind the segment, if that does not go all round.
 unfoldable pub nextPage : (pages first used : ℕ) → Found
-nextPage pages first used = cond (ltb used pages) (At (pageAt pages first used)) Nothing
+nextPage pages first used = cond (ltb used pages) (At (nthPage pages first used)) Nothing
 
 -- r parts the first n numbers into those below a limit and the others.
 pub record Splits (n : ℕ) (f : ℕ → ℕ) (limit r : ℕ) : Type 0 where

@@ -3,36 +3,8 @@ ghost use mathlib.Core.Path.{_≡_};
 ghost use Prim.Native.Nat.{_<_};
 ghost use lib.ListN.{length};
 ghost use Rattle.rules.specs.Line.{valueAt, edit};
-ghost use Rattle.pages.specs.Lines.{AsksSlot, AsksPage, AsksArchive, AsksBytes};
-ghost use Rattle.pages.specs.Lines.{lineIn, withLine, pageLine, withPageLine, archiveLine, withArchiveLine};
-
-// The line in a slot of the page that the part starts with.
-pub fn read_line(part: &[u8], slot: u32) -> [u8; 16]
-    requires { ⌜ AsksSlot slot (length (now part)) ⌝ }
-    ensures { λ r. ⌜ r ≡ lineIn (now (part .entry)) slot ⌝ }
-{
-    let from = 16 * (slot as usize);
-    let mut line = [0u8; 16];
-    let mut i = 0;
-    while i < 16 {
-        line[i] = part[from + i];
-        i += 1;
-    }
-    line
-}
-
-// Copies a line to its slot in the page that the part starts with.
-pub fn write_line(part: &mut [u8], slot: u32, line: [u8; 16])
-    requires { ⌜ AsksSlot slot (length (now part)) ⌝ }
-    ensures { λ _. ⌜ now (part .exit) ≡ withLine (now (part .entry)) slot line ⌝ }
-{
-    let to = 16 * (slot as usize);
-    let mut i = 0;
-    while i < 16 {
-        part[to + i] = line[i];
-        i += 1;
-    }
-}
+ghost use Rattle.pages.specs.Lines.{AsksPage, AsksArchive, AsksBytes};
+ghost use Rattle.pages.specs.Lines.{pageLine, withPageLine, archiveLine, withArchiveLine};
 
 // The line in a slot of a page: the pool's part that starts at the page's first byte is handed to the line reader.
 pub fn read_page_line(pool: &[u8], page: u32, slot: u32) -> [u8; 16]
@@ -40,7 +12,7 @@ pub fn read_page_line(pool: &[u8], page: u32, slot: u32) -> [u8; 16]
     ensures { λ r. ⌜ r ≡ pageLine (now (pool .entry)) page slot ⌝ }
 {
     let first = 128 * (page as usize);
-    read_line(&pool[first..], slot)
+    lists::read_line(&pool[first..], 16 * (slot as usize))
 }
 
 // Copies a line to its slot of a page, through the same part.
@@ -49,7 +21,17 @@ pub fn write_page_line(pool: &mut [u8], page: u32, slot: u32, line: [u8; 16])
     ensures { λ _. ⌜ now (pool .exit) ≡ withPageLine (now (pool .entry)) page slot line ⌝ }
 {
     let first = 128 * (page as usize);
-    write_line(&mut pool[first..], slot, line);
+    lists::write_line(&mut pool[first..], 16 * (slot as usize), line);
+}
+
+// The part of the pool that holds it.
+pub fn page_line<'a>(pool: &'a [u8], page: u32, slot: u32) -> &'a [u8]
+    requires { ⌜ AsksPage page slot (length (now pool)) ⌝ }
+    ensures { λ r. ⌜ now r ≡ pageLine (now (pool .entry)) page slot ⌝ }
+{
+    let from = 128 * (page as usize) + 16 * (slot as usize);
+    let end = from + 16;
+    &pool[from..end]
 }
 
 // A line of the archive, whose blocks lie one after the other as pages do in the pool.
@@ -60,19 +42,20 @@ pub fn read_archive_line(archive: &[u8], line: u32) -> [u8; 16]
     read_page_line(archive, line / 8, line % 8)
 }
 
+// The part of the archive that holds it.
+pub fn archive_line<'a>(archive: &'a [u8], line: u32) -> &'a [u8]
+    requires { ⌜ AsksArchive line (length (now archive)) ⌝ }
+    ensures { λ r. ⌜ now r ≡ archiveLine (now (archive .entry)) line ⌝ }
+{
+    page_line(archive, line / 8, line % 8)
+}
+
 // Copies a content to a line of the archive.
 pub fn write_archive_line(archive: &mut [u8], line: u32, content: [u8; 16])
     requires { ⌜ AsksArchive line (length (now archive)) ⌝ }
     ensures { λ _. ⌜ now (archive .exit) ≡ withArchiveLine (now (archive .entry)) line content ⌝ }
 {
     write_page_line(archive, line / 8, line % 8, content);
-}
-
-// A byte as a wider number.
-pub fn wide(x: u8) -> u32
-    ensures { λ r. ⌜ (r ≡ x) × (r < 256) ⌝ }
-{
-    x as u32
 }
 
 // The value of so many bytes of a line, from an offset on: four steps for every width, so that no jump depends on it.
@@ -83,8 +66,8 @@ pub fn value_of(line: [u8; 16], width: u32, offset: u32) -> u32
     let mut value = 0;
     let mut i = 0;
     while i < 4 {
-        let at = frames::least(offset + i, 15) as usize;
-        let byte = wide(line[at]);
+        let at = numbers::min(offset + i, 15) as usize;
+        let byte = numbers::widen_u8(line[at]);
         if i < width {
             value = value * 256 + byte;
         }

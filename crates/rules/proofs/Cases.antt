@@ -1,7 +1,7 @@
 -- The P cases of document 01 and its whole session: one statement over the rows of the table. Assumes nothing.
 use mathlib.Core.Path.{_≡_, refl}
 use mathlib.Core.List.{List, [], _∷_, map}
-use Rattle.rules.specs.Settings.{within, elements, enough}
+use Rattle.rules.specs.Settings.{within, elements, covers}
 use Rattle.rules.specs.Line.{zeros, bytesOf, valueOf, edit, valueAt}
 use Rattle.rules.specs.Call.{numberIn, refused}
 use Rattle.rules.specs.Seen.{further, dropped, any, count, needs, accepted}
@@ -11,7 +11,7 @@ use Rattle.rules.specs.Plain.{play, playGroup, playAll, touches, originI
 use Rattle.rules.specs.Cases.{rows, ample, isOk, oksOf, noesOf, played}
 
 pub cases : map played rows ≡ rows
-unfolding within elements enough zeros bytesOf valueOf edit valueAt numberIn refused further dropped any count needs accepted unless isWidth lacks askedRefusal stateRefusal placeRefusal writeRefusal lineRefusal markedRefusal actRefusal refusal emptyCache isIn isFree holds otherWay wayFor placed use-line unlessGone forget cacheStep play playGroup playAll touches originIn pagesIn newest plainSeen fresh addWrite plainStep plainFacts plainRefusal freshModel modelAnswer modelStep answersFrom rows ample isOk oksOf noesOf played
+unfolding within elements covers zeros bytesOf valueOf edit valueAt numberIn refused further dropped any count needs accepted unless isWidth lacks askedRefusal stateRefusal placeRefusal writeRefusal lineRefusal markedRefusal actRefusal refusal emptyCache isIn isFree holds otherWay wayFor placed use-line unlessGone forget cacheStep play playGroup playAll touches originIn pagesIn newest plainSeen fresh addWrite plainStep plainFacts plainRefusal freshModel modelAnswer modelStep answersFrom rows ample isOk oksOf noesOf played
 cases = refl
 
 -- so at each row,
@@ -24,5 +24,5 @@ each-case = each-fixed played rows cases
 
 -- and each row's reset is accepted.
 pub each-reset : Each (λ r. askedRefusal ample (r .asked) ≡ 0) rows
-unfolding within elements enough unless askedRefusal rows ample
+unfolding within elements covers unless askedRefusal rows ample
 each-reset = (refl, (refl, (refl, (refl, (refl, (refl, (refl, (refl, (refl, (refl, (refl, tt)))))))))))

@@ -56,11 +56,14 @@ bytes s =
 
 -- No piece is shorter than the need: the opposite of "A lent memory is shorter than the sizing call says", by the count of
 -- elements.
-unfoldable pub enough : Settings → Pieces → Bool
-enough s lengths =
-    leb (elements s .archive) (lengths .archive)
-    && leb (elements s .pool) (lengths .pool)
-    && leb (elements s .groups) (lengths .groups)
-    && leb (elements s .table) (lengths .table)
-    && leb (elements s .owners) (lengths .owners)
-    && leb (elements s .history) (lengths .history)
+unfoldable pub covers : (need lengths : Pieces) → Bool
+covers need lengths =
+    leb (need .archive) (lengths .archive)
+    && leb (need .pool) (lengths .pool)
+    && leb (need .groups) (lengths .groups)
+    && leb (need .table) (lengths .table)
+    && leb (need .owners) (lengths .owners)
+    && leb (need .history) (lengths .history)
+
+abbrev pub enough : Settings → Pieces → Bool
+enough s lengths = covers (elements s) lengths

@@ -10,7 +10,7 @@ use native.Mathlib.Nat.{mul-le-mul-right, le-trans}
 use native.Mathlib.Omega.{arith}
 use borrow.Author.Tests.{leb-true, leb-false, le-leb, lt-leb, eqb-true, ne-eqb}
 use lib.Dec.{leb, eqb}
-use Rattle.rules.specs.Settings.{Settings, Pieces, within, elements, enough}
+use Rattle.rules.specs.Settings.{Settings, Pieces, within, elements, enough, covers}
 use Rattle.rules.specs.Refusal.{Facts, unless, askedRefusal, stateRefusal, placeRefusal, writeRefusal, lineRefusal, markedRefusal, lacks, actRefusal, refusal}
 use Rattle.rules.specs.Call.{Act, Call, numberIn, refused}
 use Rattle.rules.specs.Call.Look.{LINE, LINE-REFUSAL, COUNTS}
@@ -44,7 +44,7 @@ module _ (s : Settings) (g : Good s) where
   table-fits h = le-trans (mul-le-mul-right (s .lines / 8) (g .frames-to)) (omega arith)
 
   pub fits-exactly : enough s runnerLent ≡ leb (s .lines) 512 && leb (s .pages) 256
-  unfolding enough elements runnerLent
+  unfolding covers elements runnerLent
   fits-exactly = go (leb (s .lines) 512) refl (leb (s .pages) 256) refl
     where
       go : (a : Bool) → leb (s .lines) 512 ≡ a → (b : Bool) → leb (s .pages) 256 ≡ b

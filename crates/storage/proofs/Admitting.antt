@@ -7,13 +7,13 @@ use native.Mathlib.Omega.{arith}
 use borrow.Author.Tests.{le-leb, leb-true, lt-ltb, le-ltb}
 use lib.Dec.{ltb}
 use lib.ListN.{length}
-use Rattle.rules.specs.Settings.{Settings, Pieces, within, elements, enough, bytes}
+use Rattle.rules.specs.Settings.{Settings, Pieces, within, elements, covers, enough, bytes}
 use Rattle.rules.specs.declared.Need.{Need}
 use Rattle.rules.specs.Sizing.{sizing, sizesOf, noSizes}
 use Rattle.rules.specs.Registers.{Registers, liveFrames, stateFits}
 use Rattle.rules.specs.Refusal.{unless, askedRefusal, factsBy, stateRefusal}
 use Rattle.rules.proofs.Tests.{both-true}
-use Rattle.rules.proofs.Settings.{Good, within-good}
+use Rattle.rules.proofs.Settings.{within-good}
 use Rattle.rules.proofs.Chain.{passed}
 use Rattle.rules.proofs.Registers.{Fits, fits-facts, live-some, live-at-most}
 use Rattle.frames.specs.Circle.{Turn}
@@ -24,7 +24,7 @@ use Rattle.versions.specs.Newest.{AsksNewest}
 use Rattle.versions.specs.Steps.{AsksPageFor}
 use Rattle.versions.proofs.Finding.{entry-asks}
 use Rattle.storage.specs.Storage.{startIn}
-use Rattle.storage.specs.Admit.{covers, inElements, admitted}
+use Rattle.storage.specs.Admit.{inElements, admitted, Room, Admits}
 use Rattle.storage.proofs.Rings.{start-below}
 
 -- Each piece is long enough.
@@ -74,7 +74,7 @@ not-covers n p k = go (covers n p) refl
 
 -- What the sizing call says is enough,
 covers-enough : (s : Settings) (p : Pieces) → covers (inElements (sizesOf s)) p ≡ enough s p
-unfolding covers sizesOf bytes enough elements
+unfolding covers sizesOf bytes elements
 covers-enough s p =
     simp (quarter (s .frames / 16 * s .lines), half (s .frames * (s .lines / 8)), quarter (s .pages))
   where
@@ -152,99 +152,110 @@ module _ (s : Registers) (p : Pieces) where
           go true d h = h ∙ sym (ap (λ (x : Bool). unless x 5 (unless (enough (s .settings) p) 6 0)) (fits-within ∙ d))
           go false d h = absurd (e h)
 
--- What an admitted state and lent memory have.
-pub record Room (s : Registers) (lengths : Pieces) : Type 0 where
-  pub fits : Fits s
-  pub good : Good (s .settings)
-  pub long : Long (elements (s .settings)) lengths
+-- What a state within its limits and lent memory have,
+pub room-of : (s : Registers) (p : Pieces) → Fits s → Long (elements (s .settings)) p → Room s p
+unfolding elements
+room-of s p f l =
+    let g = within-good (s .settings) (f .limits) in
+    record {
+      limits = f .limits;
+      lines-from = g .lines-from;
+      lines-to = g .lines-to;
+      lines-by = g .lines-by;
+      frames-to = g .frames-to;
+      frames-by = g .frames-by;
+      pages-from = g .pages-from;
+      pages-to = g .pages-to;
+      cmf-below = f .cmf-below;
+      omf-below = f .omf-below;
+      live-some = live-some s f;
+      live-most = live-at-most s f;
+      archive-long = l .archive;
+      pool-long = l .pool;
+      groups-long = l .groups;
+      table-long = l .table;
+      owners-long = l .owners;
+      history-long = l .history;
+    }
 
+-- and admitted ones.
 pub admitted-room : (s : Registers) (p : Pieces) (a rest : ℕ) → a ≡ admitted s p rest → a ≡ 0 → Room s p
-unfolding stateRefusal factsBy covers enough
+unfolding stateRefusal factsBy
 admitted-room s p a rest e z =
     let t = passed (stateFits s) 5 (unless (enough (s .settings) p) 6 rest) (omega arith) (sym e ∙ z) in
-    let f = fits-facts s (t .0) in
-    record { fits = f; good = within-good (s .settings) (f .limits); long = covers-long (elements (s .settings)) p (passed (enough (s .settings) p) 6 rest (omega arith) (t .1) .0) }
+    room-of s p (fits-facts s (t .0)) (covers-long (elements (s .settings)) p (passed (enough (s .settings) p) 6 rest (omega arith) (t .1) .0))
+
+pub room-passed : (s : Registers) (p : Pieces) → admitted s p 0 ≡ 0 → Room s p
+room-passed s p z = admitted-room s p 0 0 (sym z) refl
+
+pub admitted-told : (s : Registers) (p : Pieces) (a rest : ℕ) → a ≡ admitted s p rest → Admits a (admitted s p rest) (Room s p)
+admitted-told s p a rest e = (e, admitted-room s p a rest e)
 
 -- What the layers ask, of an admitted state and lent memory.
 module _ (s : Registers) (p : Pieces) (r : Room s p) where
   pub room-turn : Turn (s .settings .frames) (s .omf) (s .cmf)
-  room-turn = record { omf-below = r .fits .omf-below; below = r .fits .cmf-below; few = omega (arith, r .good .frames-to) }
-
-  pub room-archive : 16 * s .settings .lines ≤ p .archive
-  unfolding elements
-  room-archive = r .long .archive
-
-  pub room-pool : 128 * s .settings .pages ≤ p .pool
-  unfolding elements
-  room-pool = r .long .pool
+  room-turn = record { omf-below = r .omf-below; below = r .cmf-below; few = omega (arith, r .frames-to) }
 
   pub room-circle : Turn (s .settings .frames) (s .omf) (s .omf)
-  room-circle = record { omf-below = r .fits .omf-below; below = r .fits .omf-below; few = omega (arith, r .good .frames-to) }
+  room-circle = record { omf-below = r .omf-below; below = r .omf-below; few = omega (arith, r .frames-to) }
 
 module _ (s : Registers) (archive pool table owners : ℕ) (groups history : List ℕ)
     (r : Room s (record { archive = archive; pool = pool; groups = length groups; table = table; owners = owners; history = length history })) where
   pub room-lent : Lent (writtenOf (s .settings .lines) (s .settings .frames) (s .omf) groups history)
-  unfolding elements
   room-lent =
       record {
-        lines-some = omega (arith, r .good .lines-from);
-        lines-few = r .good .lines-to;
-        frames-by = r .good .frames-by;
-        frames-few = omega (arith, r .good .frames-to);
-        omf-below = r .fits .omf-below;
-        groups-long = r .long .groups;
-        history-long = r .long .history;
+        lines-some = omega (arith, r .lines-from);
+        lines-few = r .lines-to;
+        frames-by = r .frames-by;
+        frames-few = omega (arith, r .frames-to);
+        omf-below = r .omf-below;
+        groups-long = r .groups-long;
+        history-long = r .history-long;
       }
 
 module _ (s : Registers) (archive pool owners : ℕ) (groups table history : List ℕ)
     (r : Room s (record { archive = archive; pool = pool; groups = length groups; table = length table; owners = owners; history = length history })) where
   pub room-table : AsksTable (writtenOf (s .settings .lines) (s .settings .frames) (s .omf) groups history) table
-  unfolding elements
   room-table =
-      record { lent = room-lent s archive pool (length table) owners groups history r; lines-by = r .good .lines-by; lines-from = r .good .lines-from; table-long = r .long .table }
+      record { lent = room-lent s archive pool (length table) owners groups history r; lines-by = r .lines-by; lines-from = r .lines-from; table-long = r .table-long }
 
   pub room-pages : AsksTable (writtenOf (s .settings .lines) (s .settings .frames) (s .omf) groups history) table × (s .settings .pages ≤ 4096) × (s .settings .pages ≤ owners)
-  unfolding elements
-  room-pages = (room-table, r .good .pages-to, r .long .owners)
+  room-pages = (room-table, r .pages-to, r .owners-long)
 
 module _ (s : Registers) (owners : ℕ) (archive pool groups table history : List ℕ)
     (r : Room s (record { archive = length archive; pool = length pool; groups = length groups; table = length table; owners = owners; history = length history })) where
   pub room-newest : (live line : ℕ) → live ≡ liveFrames s → line < s .settings .lines
       → AsksNewest (writtenOf (s .settings .lines) (s .settings .frames) (s .omf) groups history) (s .settings .pages) live line archive pool table
-  unfolding elements
   room-newest live line e b =
       record {
         asks = room-table s (length archive) (length pool) owners groups table history r;
-        frames-few = r .good .frames-to;
-        live-some = omega (arith, live-some s (r .fits));
-        live-within = omega (arith, live-at-most s (r .fits));
+        live-some = omega (arith, r .live-some);
+        live-within = omega (arith, r .live-most);
         line-below = b;
-        pages-few = r .good .pages-to;
-        archive-long = r .long .archive;
-        pool-long = r .long .pool;
+        pages-few = r .pages-to;
+        archive-long = r .archive-long;
+        pool-long = r .pool-long;
       }
 
 module _ (s : Registers) (p : Pieces) (r : Room s p) (first used : ℕ) where
   -- the ring that the calls see
   pub room-ring : AsksRing (s .settings .pages) (startIn first (s .settings .pages)) (min used (s .settings .pages)) (s .settings .frames) (s .omf) (p .owners)
-  unfolding elements
   room-ring =
       record {
-        first-below = start-below first (s .settings .pages) (omega (arith, r .good .pages-from));
+        first-below = start-below first (s .settings .pages) (omega (arith, r .pages-from));
         used-few = omega arith;
-        pages-few = r .good .pages-to;
-        owners-long = r .long .owners;
-        omf-below = r .fits .omf-below;
-        frames-few = omega (arith, r .good .frames-to);
+        pages-few = r .pages-to;
+        owners-long = r .owners-long;
+        omf-below = r .omf-below;
+        frames-few = omega (arith, r .frames-to);
       }
 
   pub room-page : (line : ℕ) → line < s .settings .lines
       → AsksPageFor (s .settings .lines) (s .settings .frames) (s .omf) (s .settings .pages) (startIn first (s .settings .pages)) (min used (s .settings .pages)) (s .cmf) line (p .table) (p .owners)
-  unfolding elements
   room-page line b =
       record {
         ring = room-ring;
         entry =
-            entry-asks (s .settings .lines) (s .settings .frames) (s .cmf) line (p .table) (r .good .lines-by) (r .good .lines-to) (omega (arith, r .good .frames-to)) (r .fits .cmf-below) b
-            (r .long .table);
+            entry-asks (s .settings .lines) (s .settings .frames) (s .cmf) line (p .table) (r .lines-by) (r .lines-to) (omega (arith, r .frames-to)) (r .cmf-below) b
+            (r .table-long);
       }

@@ -7,20 +7,20 @@ use Prim.Native.Nat.{ℕ, _+_, _-_, _*_, _%_, _^_, _≤_, _<_}
 use native.Mathlib.Omega.{arith}
 use borrow.Author.Tests.{ltb-true, not-true, not-false, eqb-true, eqb-false, lt-ltb, le-ltb, le-leb, lt-leb, eq-eqb, ne-eqb}
 use lib.Dec.{ltb, leb, eqb}
-use Rattle.rules.specs.Settings.{Settings, Pieces, elements, enough}
-use Rattle.rules.specs.Line.{lineOf, offsetOf}
+use Rattle.rules.specs.Settings.{Settings, Pieces, enough}
+use Rattle.rules.specs.Line.{offsetOf}
 use Rattle.rules.specs.Registers.{Registers, liveFrames, stateFits}
 use Rattle.rules.specs.Refusal.{unless, isWidth, askedRefusal, lineRefusal, markedRefusal, placeRefusal, writeRefusal, factsBy, stateRefusal}
 use Rattle.rules.proofs.Chain.{Placed, fails, passes, passed, place-passed, write-passed, marked-passed}
 use Rattle.rules.proofs.Width.{widths, in-line, line-below}
-use Rattle.rules.proofs.Registers.{live-some, live-at-most}
-use Rattle.frames.specs.declared.Found.{Found}
+use Rattle.rules.proofs.Registers.{live-some}
+use Rattle.numbers.specs.declared.Found.{Found}
 use Rattle.written.specs.Bits.{writtenOf, newestFrom}
 use Rattle.pages.specs.Lines.{AsksBytes}
 use Rattle.versions.specs.Newest.{AsksSpot}
 use Rattle.versions.proofs.Finding.{newest-below}
-use Rattle.storage.specs.Admit.{admitted}
-use Rattle.storage.proofs.Admitting.{Room, admitted-room}
+use Rattle.storage.specs.Admit.{admitted, LineRoom, PlaceRoom, FramesRoom, Admits}
+use Rattle.storage.proofs.Admitting.{admitted-room}
 
 -- Tests in a row either pass, and the rest decides, or give one refusal whatever comes after them.
 abbrev Links : (ℕ → ℕ) → Type 0
@@ -81,11 +81,11 @@ module _ (w : ℕ) where
         four false e = absurd (false≢true (width-none a b (eqb-false w 4 e) ∙ h))
 
 -- The lengths measured are the lent pieces'.
-pub measured : (s : Registers) (a rest : ℕ) (p n : Pieces) → p ≡ n → a ≡ admitted s p rest → a ≡ admitted s n rest
-measured s a rest p n e told = told ∙ ap (λ (m : Pieces). admitted s m rest) e
+pub measured : (s : Registers) (rest : ℕ) {a : ℕ} {p n : Pieces} → p ≡ n → a ≡ admitted s p rest → a ≡ admitted s n rest
+measured s rest e told = told ∙ ap (λ (m : Pieces). admitted s m rest) e
 
-pub asked-measured : (s : Settings) (a : ℕ) (p n : Pieces) → p ≡ n → a ≡ askedRefusal p s → a ≡ askedRefusal n s
-asked-measured s a p n e told = told ∙ ap (λ (m : Pieces). askedRefusal m s) e
+pub asked-measured : (s : Settings) {a : ℕ} {p n : Pieces} → p ≡ n → a ≡ askedRefusal p s → a ≡ askedRefusal n s
+asked-measured s e told = told ∙ ap (λ (m : Pieces). askedRefusal m s) e
 
 module _ (s : Registers) (p : Pieces) where
   admitted-links : Links (admitted s p)
@@ -129,7 +129,7 @@ module _ (s : Registers) (p : Pieces) where
       pub lines-in : 16 * s .settings .lines < 4294967296
       lines-in =
           let r = admitted-room s p a 0 told z in
-          omega (arith, r .good .lines-to)
+          omega (arith, r .lines-to)
 
       -- LINE
       pub line-passes : (l : ℕ) → l < s .settings .lines → 0 ≡ admitted s p (lineRefusal (s .settings) l)
@@ -187,7 +187,7 @@ module _ (s : Registers) (p : Pieces) where
           pub width-in : w ≤ 16 * s .settings .lines
           width-in =
               let r = admitted-room s p a 0 told z in
-              omega (arith, r .good .lines-from, width-few w of-width .1)
+              omega (arith, r .lines-from, width-few w of-width .1)
 
           module _ (aligned : addr % w ≡ 0) where
             pub place-past : 16 * s .settings .lines - w < addr → 9 ≡ admitted s p (placeRefusal (s .settings) w addr 0)
@@ -227,35 +227,29 @@ module _ (s : Registers) (p : Pieces) where
           passes-on (λ rest. admitted s p (placeRefusal (s .settings) w addr rest)) both-links a told z 10 (unless (ltb v (256 ^ w)) 10 0)
           (sym (ap (λ (t : Bool). unless t 10 0) (sym fits ∙ h)))
 
--- What ROLLBACK and ADVANCE have once they are admitted.
-pub record FramesRoom (s : Registers) (p : Pieces) (k : ℕ) : Type 0 where
-  pub room : Room s p
-  pub k-some : 0 < k
-  pub k-low : k ≤ liveFrames s - 1
-  pub live-some : 0 < liveFrames s
-  pub live-most : liveFrames s ≤ s .settings .frames
-
-pub frames-room : (s : Registers) (p : Pieces) (a k : ℕ) → a ≡ admitted s p (markedRefusal (liveFrames s) k) → a ≡ 0
-    → FramesRoom s p k
+-- What the calls have once they are admitted: ROLLBACK and ADVANCE,
+pub frames-room : (s : Registers) (p : Pieces) (a k : ℕ) → a ≡ admitted s p (markedRefusal (liveFrames s) k) → a ≡ 0 → FramesRoom s p k
 frames-room s p a k told z =
     let r = admitted-room s p a _ told z in
     let m = marked-passed (liveFrames s) k (admitted-rest s p a _ told z) in
-    record {
-      room = r;
-      k-some = m .0;
-      k-low = m .1;
-      live-some = live-some s (r .fits);
-      live-most = live-at-most s (r .fits);
-    }
+    record { room = r; k-some = m .0; k-low = omega (arith, m .1, r .live-some) }
 
--- What READ and WRITE have of the place once they are admitted: its bytes lie in one line.
+pub frames-told : (s : Registers) (p : Pieces) (a k : ℕ) → a ≡ admitted s p (markedRefusal (liveFrames s) k)
+    → Admits a (admitted s p (markedRefusal (liveFrames s) k)) (FramesRoom s p k)
+frames-told s p a k e = (e, frames-room s p a k e)
+
+-- READ and WRITE, whose bytes lie in one line,
 pub place-bytes : (s : Settings) (w a : ℕ) → Placed s w a → AsksBytes w (offsetOf a)
 place-bytes s w a p = record { width-few = width-few w (p .width) .1; inside = in-line (widths w (p .width)) a (p .aligned) }
 
-pub record PlaceRoom (s : Registers) (p : Pieces) (w a : ℕ) : Type 0 where
-  pub room : Room s p
-  pub line-below : lineOf a < s .settings .lines
-  pub bytes : AsksBytes w (offsetOf a)
+pub place-room : (s : Registers) (p : Pieces) (r w a : ℕ) → r ≡ admitted s p (placeRefusal (s .settings) w a 0) → r ≡ 0 → PlaceRoom s p w a
+place-room s p r w a told z =
+    let d = place-passed (s .settings) w a 0 (admitted-rest s p r _ told z) .0 in
+    record { room = admitted-room s p r _ told z; line-below = line-below d; bytes = place-bytes (s .settings) w a d }
+
+pub place-told : (s : Registers) (p : Pieces) (r w a : ℕ) → r ≡ admitted s p (placeRefusal (s .settings) w a 0)
+    → Admits r (admitted s p (placeRefusal (s .settings) w a 0)) (PlaceRoom s p w a)
+place-told s p r w a e = (e, place-room s p r w a e)
 
 pub write-room : (s : Registers) (p : Pieces) (r w a v : ℕ) → r ≡ admitted s p (writeRefusal (s .settings) w a v 0) → r ≡ 0
     → PlaceRoom s p w a × Placed (s .settings) w a
@@ -263,44 +257,43 @@ write-room s p r w a v told z =
     let d = write-passed (s .settings) w a v 0 (admitted-rest s p r _ told z) .0 in
     (record { room = admitted-room s p r _ told z; line-below = line-below d; bytes = place-bytes (s .settings) w a d }, d)
 
-pub place-room : (s : Registers) (p : Pieces) (r w a : ℕ) → r ≡ admitted s p (placeRefusal (s .settings) w a 0) → r ≡ 0 → PlaceRoom s p w a
-place-room s p r w a told z =
-    let d = place-passed (s .settings) w a 0 (admitted-rest s p r _ told z) .0 in
-    record { room = admitted-room s p r _ told z; line-below = line-below d; bytes = place-bytes (s .settings) w a d }
+pub write-told : (s : Registers) (p : Pieces) (r w a v : ℕ) → r ≡ admitted s p (writeRefusal (s .settings) w a v 0)
+    → Admits r (admitted s p (writeRefusal (s .settings) w a v 0)) (PlaceRoom s p w a)
+write-told s p r w a v e = (e, λ z. write-room s p r w a v e z .0)
 
--- What LINE has once it is admitted.
-pub record LineRoom (s : Registers) (p : Pieces) (l : ℕ) : Type 0 where
-  pub room : Room s p
-  pub line-below : l < s .settings .lines
-  pub live-some : 0 < liveFrames s
-  pub live-most : liveFrames s ≤ s .settings .frames
-  pub archive-long : 16 * s .settings .lines ≤ p .archive
-  pub pool-long : 128 * s .settings .pages ≤ p .pool
-
+-- and LINE.
 pub line-room : (s : Registers) (p : Pieces) (r l : ℕ) → r ≡ admitted s p (lineRefusal (s .settings) l) → r ≡ 0 → LineRoom s p l
-unfolding lineRefusal elements
+unfolding lineRefusal
 line-room s p r l told z =
-    let d = admitted-room s p r _ told z in
     record {
-      room = d;
+      room = admitted-room s p r _ told z;
       line-below = ltb-true l (s .settings .lines) (passed (ltb l (s .settings .lines)) 9 0 (omega arith) (admitted-rest s p r _ told z) .0);
-      live-some = live-some s (d .fits);
-      live-most = live-at-most s (d .fits);
-      archive-long = d .long .archive;
-      pool-long = d .long .pool;
     }
+
+pub line-told : (s : Registers) (p : Pieces) (r l : ℕ) → r ≡ admitted s p (lineRefusal (s .settings) l)
+    → Admits r (admitted s p (lineRefusal (s .settings) l)) (LineRoom s p l)
+line-told s p r l e = (e, line-room s p r l e)
+
+-- The same over the pieces that were measured.
+pub line-measured : {s : Registers} {p n : Pieces} {l : ℕ} → p ≡ n → LineRoom s p l → LineRoom s n l
+line-measured {s = s} {l = l} e = subst (λ (m : Pieces). LineRoom s m l) e
+
+pub place-measured : {s : Registers} {p n : Pieces} {w a : ℕ} → p ≡ n → PlaceRoom s p w a → PlaceRoom s n w a
+place-measured {s = s} {w = w} {a = a} e = subst (λ (m : Pieces). PlaceRoom s m w a) e
+
+pub frames-measured : {s : Registers} {p n : Pieces} {k : ℕ} → p ≡ n → FramesRoom s p k → FramesRoom s n k
+frames-measured {s = s} {k = k} e = subst (λ (m : Pieces). FramesRoom s m k) e
 
 pub line-spot : (s : Registers) (p : Pieces) (l : ℕ) → LineRoom s p l → (live : ℕ) → live ≡ liveFrames s
     → (groups history : List ℕ) (found : Found) → found ≡ newestFrom (writtenOf (s .settings .lines) (s .settings .frames) (s .omf) groups history) l (live - 1)
     → AsksSpot (s .settings .lines) (s .settings .frames) (s .omf) l found (p .table)
-unfolding elements
 line-spot s p l g live e groups history found told =
     record {
-      lines-by = g .room .good .lines-by;
-      lines-few = g .room .good .lines-to;
-      frames-few = omega (arith, g .room .good .frames-to);
-      omf-below = g .room .fits .omf-below;
+      lines-by = g .room .lines-by;
+      lines-few = g .room .lines-to;
+      frames-few = omega (arith, g .room .frames-to);
+      omf-below = g .room .omf-below;
       line-below = g .line-below;
-      index-below = λ i d. omega (arith, g .live-some, g .live-most, newest-below (writtenOf (s .settings .lines) (s .settings .frames) (s .omf) groups history) l (live - 1) i (sym told ∙ d));
-      table-long = g .room .long .table;
+      index-below = λ i d. omega (arith, g .room .live-some, g .room .live-most, newest-below (writtenOf (s .settings .lines) (s .settings .frames) (s .omf) groups history) l (live - 1) i (sym told ∙ d));
+      table-long = g .room .table-long;
     }

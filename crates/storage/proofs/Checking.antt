@@ -20,10 +20,10 @@ use Rattle.rules.specs.Refusal.{refusal, stateRefusal, factsBy}
 use Rattle.rules.specs.Figure2.{initial}
 use Rattle.rules.specs.Figure3.{WellCache}
 use Rattle.rules.specs.Promise.{Promise}
+use Rattle.rules.proofs.Settings.{within-good}
 use Rattle.rules.proofs.Chain.{passed}
-use Rattle.rules.proofs.Registers.{live-at-most}
 use Rattle.rules.proofs.WellSteps.{initial-well}
-use Rattle.frames.proofs.Lines.{is-line}
+use Rattle.lists.proofs.Lines.{is-line}
 use Rattle.written.specs.Bits.{writtenOf, effective}
 use Rattle.written.specs.Well.{WellBits}
 use Rattle.pages.specs.Lines.{archiveLine}
@@ -37,7 +37,8 @@ use Rattle.wellformed.specs.Decision.{Decides}
 use Rattle.wellformed.specs.Parts.{RecentIn, Bytes, AsksBits, AsksRecent}
 use Rattle.wellformed.proofs.Deciding.{passes}
 use Rattle.storage.specs.Storage.{Storage, settingsIn, registersIn, liveIn, lengthsIn, writtenIn, indexBack, versionAt, frameIn, archiveIn, latestIn, newestFrame, WellStore, store}
-use Rattle.storage.proofs.Admitting.{Room, admitted-room, room-lent, room-newest}
+use Rattle.storage.specs.Admit.{Room}
+use Rattle.storage.proofs.Admitting.{admitted-room, room-lent, room-newest}
 use Rattle.storage.proofs.Looking.{admittedIn, turned-down, let-through}
 use Rattle.storage.proofs.Figures.{frame-live, frame-past, frame-at, archive-past}
 use Rattle.storage.proofs.Reading.{Findable, well-findable, page-known, newest-told}
@@ -62,8 +63,8 @@ module _ (s : Registers) (archive pool table owners live : ℕ) (groups history 
   room-bits =
       record {
         lent = room-lent s archive pool table owners groups history r;
-        lines-by = r .good .lines-by;
-        live-within = omega (arith, counted, live-at-most s (r .fits));
+        lines-by = r .lines-by;
+        live-within = omega (arith, counted, r .live-most);
       }
 
 module _ (s : Registers) (owners live : ℕ) (archive pool groups table history : List ℕ)
@@ -71,10 +72,9 @@ module _ (s : Registers) (owners live : ℕ) (archive pool groups table history 
     (counted : live ≡ liveFrames s) where
   pub room-recent : AsksRecent (writtenOf (s .settings .lines) (s .settings .frames) (s .omf) groups history) (s .settings .pages) live archive pool table
   room-recent =
-      let n = room-newest s owners archive pool groups table history r live 0 counted (omega (arith, r .good .lines-from)) in
+      let n = room-newest s owners archive pool groups table history r live 0 counted (omega (arith, r .lines-from)) in
       record {
         asks = n .asks;
-        frames-few = n .frames-few;
         live-some = n .live-some;
         live-within = n .live-within;
         pages-few = n .pages-few;
@@ -105,15 +105,15 @@ module _ (x : Storage) (z : admittedIn x 0 ≡ 0) where
       go : Dec (l < x .state .registers .lines) → IsLine (archiveIn x l)
       go (yes b) =
           subst IsLine (sym (ap (λ (t : Bool). cond t (archiveLine (x .memory .archive) l) zeros) (lt-ltb l (x .state .registers .lines) b)))
-          (is-line (x .memory .archive) (16 * l) (omega (arith, room .long .archive)) (λ i h. bytes i (omega arith)))
-      go (no b) = subst IsLine (sym (archive-past x l (omega arith))) (initial-well (settingsIn (x .state)) (room .good) .archive-line l)
+          (is-line (x .memory .archive) (16 * l) (omega (arith, room .archive-long)) (λ i h. bytes i (omega arith)))
+      go (no b) = subst IsLine (sym (archive-past x l (omega arith))) (initial-well (settingsIn (x .state)) (within-good _ (room .limits)) .archive-line l)
 
   module _ (q : Findable x) (bytes : Bytes (128 * x .state .registers .pages) (x .memory .pool)) where
     version-line : (i l : ℕ) → i < liveIn (x .state) → l < x .state .registers .lines → effective (writtenIn x) i l ≡ true → IsLine (versionAt x i l)
     unfolding versionAt pageOf elements
     version-line i l h b e =
         let p = page-known x q i l h b e in
-        is-line (x .memory .pool) _ (omega (arith, p, room .long .pool)) (λ k c. bytes k (omega (arith, p)))
+        is-line (x .memory .pool) _ (omega (arith, p, room .pool-long)) (λ k c. bytes k (omega (arith, p)))
 
     version-lines : (j l : ℕ) (v : Line) → frameIn x j l ≡ some v → IsLine v
     version-lines j l v e = go (decLt j (liveIn (x .state))) (decLt l (x .state .registers .lines))

@@ -17,18 +17,17 @@ use Rattle.rules.specs.Figure2.{isWritten, figureSeen}
 use Rattle.rules.specs.Promise.{seenOf}
 use Rattle.rules.proofs.Count.{any-same}
 use Rattle.frames.specs.Circle.{indexOf, frameAt}
-use Rattle.frames.specs.declared.Found.{Found}
-use Rattle.frames.specs.declared.Found.the-variants.{At, Nothing}
+use Rattle.numbers.specs.declared.Found.{Found}
+use Rattle.numbers.specs.declared.Found.the-variants.{At, Nothing}
 use Rattle.frames.proofs.Circle.{frame-below, index-frame, frame-index}
 use Rattle.written.specs.Bits.{Written, writtenOf, Asks, effective}
 use Rattle.written.specs.Steps.{withWritten}
-use Rattle.pages.specs.Table.{AsksTable, neededAt, placeAt, placesOf, entryOf}
-use Rattle.pages.specs.Ring.{pageAt, positionOf, Paged, WellRing, owns, nextPage}
+use Rattle.pages.specs.Table.{AsksTable, neededAt, placeAt, placesOf, entryOf, entryAt}
+use Rattle.pages.specs.Ring.{nthPage, positionOf, Paged, WellRing, owns, nextPage}
 use Rattle.pages.proofs.Needs.{needed-place}
 use Rattle.pages.proofs.Owning.{own-means, own-is}
 use Rattle.pages.proofs.Moves.{own-needed, one-page, next-free}
 use Rattle.pages.proofs.Keeping.{set-ring, put-ring}
-use Rattle.versions.specs.Newest.{entryAt}
 use Rattle.versions.specs.Steps.{ownsPage, pageFor, usedFor}
 use Rattle.versions.proofs.Finding.{place-entry}
 use Rattle.storage.specs.Storage.{Storage, ringAt, liveIn, writtenIn, frameIn, WellStore, store}
@@ -60,9 +59,9 @@ unfolding pageFor nextPage
 page-below lines pages first used table owners frame l p h e = go (ownsPage lines pages first used table owners frame l) refl (ltb used pages) e
   where
     entry : ℕ
-    entry = getD table (entryAt lines frame l) 0
+    entry = getD table (entryAt lines frame (l / 8)) 0
 
-    go : (t : Bool) → ownsPage lines pages first used table owners frame l ≡ t → (u : Bool) → cond t (At entry) (cond u (At (pageAt pages first used)) Nothing) ≡ At p → p < pages
+    go : (t : Bool) → ownsPage lines pages first used table owners frame l ≡ t → (u : Bool) → cond t (At entry) (cond u (At (nthPage pages first used)) Nothing) ≡ At p → p < pages
     go true d u e = subst (λ (y : ℕ). y < pages) (at-same e) (own-means pages first used owners entry (placeAt frame (l / 8)) d .0)
     go false d true e = subst (λ (y : ℕ). y < pages) (at-same e) (frame-below pages first h used)
     go false d false e = absurd (at-some (sym e))
@@ -165,7 +164,7 @@ module _ (x : Storage) (q : WellStore x) (l : ℕ) (b : l < x .state .registers 
     chosen-own =
         record {
           below = omega (arith, has .page-below, own-at);
-          page-is = sym (ap (λ (t : Bool). cond t (getD (x .memory .table) entry 0) (pageAt (x .state .registers .pages) (x .state .registers .first) (x .state .registers .used))) e);
+          page-is = sym (ap (λ (t : Bool). cond t (getD (x .memory .table) entry 0) (nthPage (x .state .registers .pages) (x .state .registers .first) (x .state .registers .used))) e);
           used-is = sym (ap (λ (t : Bool). cond t (x .state .registers .used) (x .state .registers .used + 1)) e);
           own = λ _. refl;
           apart = λ y h d ne same. ne (one-page (q .pages) y place h d place-inside e (same ∙ sym own-at));
@@ -181,7 +180,7 @@ module _ (x : Storage) (q : WellStore x) (l : ℕ) (b : l < x .state .registers 
   -- the one behind the segment
   module _ (e : neededAt w place ≡ false) (room : x .state .registers .used < x .state .registers .pages) where
     abbrev next : ℕ
-    next = pageAt (x .state .registers .pages) (x .state .registers .first) (x .state .registers .used)
+    next = nthPage (x .state .registers .pages) (x .state .registers .first) (x .state .registers .used)
 
     few : seenOf store x .pages < x .state .registers .pages
     few = subst (λ (m : ℕ). m < x .state .registers .pages) (pages-counted x q) room
@@ -264,7 +263,7 @@ module _ (x : Storage) (q : WellStore x) (l : ℕ) (b : l < x .state .registers 
   chosen p e = go (neededAt w place) refl (decLt (x .state .registers .used) (x .state .registers .pages)) (sym choice-is ∙ e) many-is
     where
       next : Bool → Found
-      next u = cond u (At (pageAt (x .state .registers .pages) (x .state .registers .first) (x .state .registers .used))) Nothing
+      next u = cond u (At (nthPage (x .state .registers .pages) (x .state .registers .first) (x .state .registers .used))) Nothing
 
       go : (t : Bool) → neededAt w place ≡ t → Dec (x .state .registers .used < x .state .registers .pages)
           → cond t (At (getD (x .memory .table) entry 0)) (next (ltb (x .state .registers .used) (x .state .registers .pages))) ≡ At p
@@ -281,7 +280,7 @@ module _ (x : Storage) (q : WellStore x) (l : ℕ) (b : l < x .state .registers 
   none-chosen e = go (neededAt w place) refl (decLt (x .state .registers .used) (x .state .registers .pages)) (sym choice-is ∙ e)
     where
       next : Bool → Found
-      next u = cond u (At (pageAt (x .state .registers .pages) (x .state .registers .first) (x .state .registers .used))) Nothing
+      next u = cond u (At (nthPage (x .state .registers .pages) (x .state .registers .first) (x .state .registers .used))) Nothing
 
       go : (t : Bool) → neededAt w place ≡ t → Dec (x .state .registers .used < x .state .registers .pages)
           → cond t (At (getD (x .memory .table) entry 0)) (next (ltb (x .state .registers .used) (x .state .registers .pages))) ≡ Nothing → none-free ≡ true

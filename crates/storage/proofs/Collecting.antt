@@ -28,15 +28,15 @@ use Rattle.rules.specs.Registers as rules
 use Rattle.rules.proofs.Registers.{facts-fit, live-advance}
 use Rattle.rules.proofs.WellSteps.{advance-well}
 use Rattle.frames.specs.Circle.{frameAt}
-use Rattle.frames.specs.Search.{greatest}
-use Rattle.frames.proofs.Search.{greatest-found}
+use Rattle.numbers.specs.Search.{greatest}
+use Rattle.numbers.proofs.Search.{greatest-found}
 use Rattle.written.specs.Bits.{effective}
 use Rattle.written.specs.Steps.{lowered}
 use Rattle.written.specs.Well.{WellBits}
 use Rattle.written.proofs.Advancing.{Collected, advanced-effective, advanced-well}
 use Rattle.written.proofs.Finding.{version-back}
 use Rattle.pages.specs.Lines.{pageLine, archiveLine}
-use Rattle.pages.specs.Ring.{pageAt, indexAt, Splits, WellRing}
+use Rattle.pages.specs.Ring.{nthPage, indexAt, Splits, WellRing}
 use Rattle.pages.proofs.Keeping.{advanced-ring}
 use Rattle.cache.specs.Steps.{archiveFrame, frameAfter, framesAfter, withOrigins, collected}
 use Rattle.cache.specs.Shown.{shown}
@@ -49,10 +49,12 @@ use Rattle.versions.proofs.Walking.{folded-line}
 use Rattle.versions.proofs.Cleared.{PagesCleared, pages-cleared, pages-collected}
 use Rattle.storage.specs.declared.Registers.{Registers}
 use Rattle.storage.specs.Storage.{Storage, stateOf, storageOf, memoryOf, startIn, settingsIn, registersIn, lengthsIn, pastIn, Recent, Coherent, liveIn, writtenIn, indexBack, frameIn, archiveIn, versionAt, latestIn, frameNumber, newestFrame, WellStore, store}
-use Rattle.storage.specs.Steps.{FirstPages, advancedRegisters, advancedState, AdvancedTo}
+use Rattle.storage.specs.Steps.{FirstPages, advancedRegisters, advancedState}
+use Rattle.storage.specs.Admit.{Room}
+use Rattle.storage.specs.Contracts.{Advances}
 use Rattle.storage.proofs.Rings.{start-same, start-below, used-same, ring-first}
 use Rattle.storage.proofs.Limits.{Limits, limits, lent-long}
-use Rattle.storage.proofs.Admitting.{Room}
+use Rattle.storage.proofs.Admitting.{room-of}
 use Rattle.storage.proofs.Chains.{frames-room}
 use Rattle.storage.proofs.Looking.{admittedIn, turned-down, let-through}
 use Rattle.storage.proofs.Figures.{AlikeAt, frames-alike, frame-at, frame-live, archive-past, well-figure, step-versions, step-archive}
@@ -77,14 +79,14 @@ module _ (x : Storage) (k gone : ℕ) where
     folded-in : PagesFolded (writtenIn x) (x .state .registers .pages) start (x .memory .owners) (x .memory .pool) gone (x .memory .archive) (collected-to .memory .archive)
     unfolding elements
     folded-in =
-        pages-folded (writtenIn x) (x .state .registers .pages) start (x .memory .owners) (x .memory .pool) gone (x .memory .archive) (r .good .lines-by) (r .long .archive)
-        (start-below (x .state .registers .first) (x .state .registers .pages) (omega (arith, r .good .pages-from))) (r .long .pool)
+        pages-folded (writtenIn x) (x .state .registers .pages) start (x .memory .owners) (x .memory .pool) gone (x .memory .archive) (r .lines-by) (r .archive-long)
+        (start-below (x .state .registers .first) (x .state .registers .pages) (omega (arith, r .pages-from))) (r .pool-long)
 
-    cleared-in : PagesCleared (writtenIn x) (r .good .lines-by) (r .good .frames-by) (x .state .registers .pages) start (x .memory .owners) gone (x .memory .groups) (collected-to .memory .groups)
+    cleared-in : PagesCleared (writtenIn x) (r .lines-by) (r .frames-by) (x .state .registers .pages) start (x .memory .owners) gone (x .memory .groups) (collected-to .memory .groups)
     unfolding elements indexAt
     cleared-in =
-        pages-cleared (writtenIn x) (r .good .lines-by) (r .good .frames-by) (x .state .registers .pages) start (x .memory .owners) gone (x .memory .groups)
-        (λ i b. index-frame-few (x .state .registers .frames) (x .state .registers .omf) _ k (found .low i b) below) (r .long .groups)
+        pages-cleared (writtenIn x) (r .lines-by) (r .frames-by) (x .state .registers .pages) start (x .memory .owners) gone (x .memory .groups)
+        (λ i b. index-frame-few (x .state .registers .frames) (x .state .registers .omf) _ k (found .low i b) below) (r .groups-long)
 
     lengths-kept : lengthsIn (collected-to .memory) ≡ lengthsIn (x .memory)
     lengths-kept = λ i.
@@ -127,7 +129,7 @@ module _ (x : Storage) (q : WellStore x) (k gone : ℕ) (some-k : 0 < k) (low : 
   live = live-advance (registersIn (x .state)) (lim .fits) k low
 
   room : Room (registersIn (x .state)) (lengthsIn (x .memory))
-  room = record { fits = lim .fits; good = lim .good; long = lent-long x (q .long) }
+  room = room-of _ _ (lim .fits) (lent-long x (q .long))
 
   parts : Splits (x .state .registers .used) (indexAt (x .state .registers .frames) (x .state .registers .omf) (x .state .registers .pages) (x .state .registers .first) (x .memory .owners)) k gone
   parts = ring-first x q k gone found
@@ -195,7 +197,7 @@ module _ (x : Storage) (q : WellStore x) (k gone : ℕ) (some-k : 0 < k) (low : 
     archive-folded =
         ap (λ (t : Bool). cond t (archiveLine (new .memory .archive) l) zeros) (lt-ltb l (x .state .registers .lines) b)
         ∙ (ap (λ (f : ℕ). archiveLine (foldedPages (writtenIn x) (x .state .registers .pages) f (x .memory .pool) (x .memory .owners) gone (x .memory .archive)) l) started
-        ∙ (folded-line (writtenIn x) (q .bits .lent) (x .state .registers .pages) (x .state .registers .first) (x .state .registers .used) gone k (omega (arith, below)) (x .memory .table) (x .memory .owners) (q .pages) parts (lim .good .lines-by) l b (x .memory .pool) (x .memory .archive) (room .long .archive) (room .long .pool)
+        ∙ (folded-line (writtenIn x) (q .bits .lent) (x .state .registers .pages) (x .state .registers .first) (x .state .registers .used) gone k (omega (arith, below)) (x .memory .table) (x .memory .owners) (q .pages) parts (lim .good .lines-by) l b (x .memory .pool) (x .memory .archive) (room .archive-long) (room .pool-long)
         ∙ (version-content x (well-findable x q) l b (greatest k row) (λ i e. let g = greatest-found k row i e in (omega (arith, g .below), g .passes))
         ∙ (sym (version-back k row (λ i. versionAt x i l) (archiveIn x l))
         ∙ sym (version-same k (λ j. frameIn x (kept + j) l) (λ j. cond (row (k - 1 - j)) (some (versionAt x (k - 1 - j) l)) none) (archiveIn x l) oldest)))))
@@ -224,13 +226,13 @@ module _ (x : Storage) (q : WellStore x) (k gone : ℕ) (some-k : 0 < k) (low : 
 
   archive-stays : frameAfter (x .state .registers .omf) (x .state .registers .frames) k archiveFrame ≡ archiveFrame
   unfolding frameAfter
-  archive-stays = ap (λ (t : Bool). cond t archiveFrame archiveFrame) (below-archive (x .state .registers .frames) (x .state .registers .omf) (lim .good .frames-to) (lim .fits .omf-below) k)
+  archive-stays = ap (λ (t : Bool). cond t archiveFrame archiveFrame) (below-archive (x .state .registers .frames) (x .state .registers .omf) (omega (arith, lim .good .frames-to)) (lim .fits .omf-below) k)
 
   frame-collected : (o : Place) → Within n o → frameAfter (x .state .registers .omf) (x .state .registers .frames) k (frameNumber (x .state) o) ≡ frameNumber (new .state) (first kept o)
   unfolding frameAfter frameNumber dropped advancedState
   frame-collected (in-frame j) h =
       ap (λ (t : Bool). cond t archiveFrame (frameAt (x .state .registers .frames) (x .state .registers .omf) (n - 1 - j)))
-      (below-frame (x .state .registers .frames) (x .state .registers .omf) (lim .good .frames-to) (lim .fits .omf-below) k (n - 1 - j) (omega (arith, lim .live-most)))
+      (below-frame (x .state .registers .frames) (x .state .registers .omf) (omega (arith, lim .good .frames-to)) (lim .fits .omf-below) k (n - 1 - j) (omega (arith, lim .live-most)))
       ∙ go (decLt j kept)
     where
       go : Dec (j < kept) → cond (ltb (n - 1 - j) k) archiveFrame (frameAt (x .state .registers .frames) (x .state .registers .omf) (n - 1 - j)) ≡ frameNumber (new .state) (cond (ltb j kept) (in-frame j) in-archive)
@@ -264,10 +266,10 @@ module _ (x : Storage) (q : WellStore x) (k gone : ℕ) (some-k : 0 < k) (low : 
   unfolding advancedState frameAt
   collected-pages =
       subst
-      (λ (f : ℕ). WellRing (writtenIn new) (x .state .registers .pages) (pageAt (x .state .registers .pages) f gone) (new .state .registers .used) (x .memory .table) (x .memory .owners))
+      (λ (f : ℕ). WellRing (writtenIn new) (x .state .registers .pages) (nthPage (x .state .registers .pages) f gone) (new .state .registers .used) (x .memory .table) (x .memory .owners))
       (sym started)
       (subst
-      (λ (u : ℕ). WellRing (writtenIn new) (x .state .registers .pages) (pageAt (x .state .registers .pages) (x .state .registers .first) gone) (u - gone) (x .memory .table) (x .memory .owners))
+      (λ (u : ℕ). WellRing (writtenIn new) (x .state .registers .pages) (nthPage (x .state .registers .pages) (x .state .registers .first) gone) (u - gone) (x .memory .table) (x .memory .owners))
       (sym (used-same (x .state .registers .used) (x .state .registers .pages) (q .pages .used-few)))
       (advanced-ring (writtenIn x) (q .bits .lent) k below (new .memory .groups) groups-collected (x .state .registers .pages) (x .state .registers .first) (x .state .registers .used) gone (x .memory .table) (x .memory .owners) (q .pages) parts))
 
@@ -298,27 +300,24 @@ module _ (x : Storage) (q : WellStore x) (k gone : ℕ) (some-k : 0 < k) (low : 
 
 -- The promise: refused, and accepted.
 module _ (x : Storage) (k a : ℕ) (told : a ≡ admittedIn x (markedRefusal (liveIn (x .state)) k)) where
-  pub advance-refused : a ≢ 0 → Promise store (ON (CHANGE (ADVANCE k))) x (outcome a) x
+  pub advance-refused : a ≢ 0 → Advances x k a x
   unfolding refusal actRefusal factsBy refused
-  advance-refused z = turned-down x (ON (CHANGE (ADVANCE k))) a told z
+  advance-refused z = (turned-down x (ON (CHANGE (ADVANCE k))) a told z, λ e. absurd (z e))
 
   module _ (gone : ℕ) (found : FirstPages (x .state .registers) (x .memory .owners) k gone) where
     promised : a ≡ 0 → Promise store (ON (CHANGE (ADVANCE k))) x (outcome 0) (collected-to x k gone)
     unfolding refusal actRefusal factsBy refused registersStep settingsFor advancedState
     promised z =
         let g = frames-room (registersIn (x .state)) (lengthsIn (x .memory)) a k told z in
-        let few : k ≤ x .state .registers .frames = omega (arith, g .k-low, g .live-most) in
-        let-through x (ON (CHANGE (ADVANCE k))) a told z refl (record { registers = refl; followed = λ q. advanced-followed x q k gone (g .k-some) (g .k-low) found }) (lengths-kept x k gone (g .room) few found) (past-kept x k gone (g .room) few found)
+        let few : k ≤ x .state .registers .frames = omega (arith, g .k-low, g .room .live-most) in
+        let-through x (ON (CHANGE (ADVANCE k))) a told z refl (record { registers = refl; followed = λ q. advanced-followed x q k gone (g .k-some) (omega (arith, g .k-low)) found }) (lengths-kept x k gone (g .room) few found) (past-kept x k gone (g .room) few found)
 
     -- in the form in which the code has the lists, the registers and the cache's frames
     pub advance-collects : a ≡ 0 → (archive groups history : List ℕ) → archive ≡ collected-to x k gone .memory .archive
         → groups ≡ collected-to x k gone .memory .groups → history ≡ collected-to x k gone .memory .history
         → (t : Registers) (origins : List ℕ) → t ≡ advancedRegisters (x .state .registers) k gone
         → origins ≡ framesAfter (x .state .registers .omf) (x .state .registers .frames) k (x .state .cache .frames)
-        → Promise store (ON (CHANGE (ADVANCE k))) x (outcome 0)
-        (storageOf (stateOf t (withOrigins (x .state .cache) origins)) archive (x .memory .pool) groups (x .memory .table) (x .memory .owners) history)
-        × AdvancedTo (x .state) (x .memory .archive) (x .memory .pool) (x .memory .groups) (x .memory .owners) (x .memory .history) k
-        (stateOf t (withOrigins (x .state .cache) origins)) archive groups history
+        → Advances x k 0 (storageOf (stateOf t (withOrigins (x .state .cache) origins)) archive (x .memory .pool) groups (x .memory .table) (x .memory .owners) history)
     unfolding advancedState collected
     advance-collects z archive groups history ea eg eh t origins e frames =
         let same : stateOf t (withOrigins (x .state .cache) origins) ≡ advancedState (x .state) k gone =
@@ -326,5 +325,5 @@ module _ (x : Storage) (k a : ℕ) (told : a ≡ admittedIn x (markedRefusal (li
         in (
           subst (Promise store (ON (CHANGE (ADVANCE k))) x (outcome 0))
               (λ i. storageOf (sym same i) (sym ea i) (x .memory .pool) (sym eg i) (x .memory .table) (x .memory .owners) (sym eh i)) (promised z),
-          record { gone = gone; pages = found; state = same; archive-is = ea; groups-is = eg; history-is = eh },
+          λ d. record { gone = gone; pages = found; state = same; archive-is = ea; groups-is = eg; history-is = eh },
         )

@@ -2,12 +2,11 @@
 use mathlib.Core.Path.{_≡_}
 use mathlib.Core.Bool.{true}
 use Prim.Native.Nat.{_≤_, _<_}
-use Rattle.rules.specs.Settings.{elements, enough}
+use Rattle.rules.specs.Settings.{elements, enough, covers}
 use Rattle.rules.specs.Registers.{stateFits}
 use Rattle.rules.proofs.Settings.{Good, within-good}
 use Rattle.rules.proofs.Registers.{Fits, fits-facts, live-some, live-at-most}
 use Rattle.storage.specs.Storage.{Storage, settingsIn, registersIn, lengthsIn, liveIn}
-use Rattle.storage.specs.Admit.{covers}
 use Rattle.storage.proofs.Admitting.{Long, covers-long}
 
 pub record Limits (x : Storage) : Type 0 where
@@ -27,5 +26,5 @@ limits x e =
     }
 
 pub lent-long : (x : Storage) → enough (settingsIn (x .state)) (lengthsIn (x .memory)) ≡ true → Long (elements (settingsIn (x .state))) (lengthsIn (x .memory))
-unfolding enough covers
+unfolding covers
 lent-long x e = covers-long (elements (settingsIn (x .state))) (lengthsIn (x .memory)) e

@@ -34,6 +34,7 @@ use Rattle.storage.specs.declared.Registers.{Registers}
 use Rattle.versions.specs.Newest.{pageOf}
 use Rattle.storage.specs.Storage.{Storage, stateOf, settingsIn, registersIn, lengthsIn, liveIn, writtenIn, frameIn, archiveIn, versionAt, latestIn, frameNumber, newestFrame, WellStore, store}
 use Rattle.storage.specs.Steps.{markedRegisters, markedState}
+use Rattle.storage.specs.Contracts.{Marks}
 use Rattle.storage.proofs.Limits.{Limits, limits}
 use Rattle.storage.proofs.Chains.{admitted-rest}
 use Rattle.storage.proofs.Figures.{well-figure, step-versions, step-archive}
@@ -141,18 +142,17 @@ module _ (x : Storage) (q : WellStore x) (room : liveIn (x .state) < x .state .r
 
 -- The promise: refused, and accepted.
 module _ (x : Storage) (r : ℕ) (told : r ≡ admittedIn x (unless (ltb (liveIn (x .state)) (x .state .registers .frames)) 12 0)) where
-  pub mark-refused : r ≢ 0 → Promise store (ON (CHANGE MARK)) x (outcome r) x
+  pub mark-refused : r ≢ 0 → Marks x r x
   unfolding refusal actRefusal factsBy refused
-  mark-refused z = turned-down x (ON (CHANGE MARK)) r told z
+  mark-refused z = (turned-down x (ON (CHANGE MARK)) r told z, λ e. absurd (z e))
 
   pub mark-opens : r ≡ 0 → (t : Registers) → t ≡ markedRegisters (x .state .registers)
-      → Promise store (ON (CHANGE MARK)) x (outcome 0) (record { state = stateOf t (x .state .cache); memory = x .memory })
-      × (stateOf t (x .state .cache) ≡ markedState (x .state))
+      → Marks x 0 (record { state = stateOf t (x .state .cache); memory = x .memory })
   unfolding refusal actRefusal factsBy refused registersStep settingsFor markedState
   mark-opens z t e =
       let rest = admitted-rest (registersIn (x .state)) (lengthsIn (x .memory)) r _ told z in
       let below = ltb-true (liveIn (x .state)) (x .state .registers .frames) (passed (ltb (liveIn (x .state)) (x .state .registers .frames)) 12 0 (omega arith) rest .0) in (
         subst (λ (s : Registers). Promise store (ON (CHANGE MARK)) x (outcome 0) (record { state = stateOf s (x .state .cache); memory = x .memory })) (sym e)
             (let-through x (ON (CHANGE MARK)) r told z refl (record { registers = refl; followed = λ q. opened-followed x q below }) refl refl),
-        ap (λ (s : Registers). stateOf s (x .state .cache)) e,
+        λ d. ap (λ (s : Registers). stateOf s (x .state .cache)) e,
       )

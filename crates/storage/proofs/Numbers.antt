@@ -15,7 +15,7 @@ use Rattle.storage.specs.declared.State.{State}
 use Rattle.storage.specs.Storage.{frameNumber}
 use Rattle.storage.specs.Steps.{usedState}
 
-module _ (frames omf : ℕ) (few : frames ≤ 256) (h : omf < frames) (m : ℕ) where
+module _ (frames omf : ℕ) (few : frames ≤ 4096) (h : omf < frames) (m : ℕ) where
   -- a frame is told by its index, and the archive's number lies off the circle
   pub below-frame : (i : ℕ) → i < frames → isBelow omf frames m (frameAt frames omf i) ≡ ltb i m
   unfolding isBelow

@@ -8,8 +8,8 @@ use native.Mathlib.Omega.{arith}
 use borrow.Author.Tests.{lt-ltb, le-ltb}
 use lib.Dec.{ltb}
 use lib.ListN.{length, getD, drop, length-drop, length-set}
-use lib.Seq.{ext-getD, getD-drop}
-use Rattle.frames.proofs.Lists.{drop-set, rewrite-drop, rewrite-length}
+use lib.Seq.{ext-getD, getD-drop, drop-set-lt}
+use Rattle.lists.proofs.Lists.{rewrite-drop, rewrite-length}
 use Rattle.written.specs.Bits.{Written, writtenOf, Lent}
 use Rattle.written.proofs.Rolling.{group-place}
 use Rattle.written.specs.Steps.{RolledBack, swept, nextTag, lowered, withWritten}
@@ -52,7 +52,7 @@ module _ (w : Written) (tag kept : ℕ) (groups history : List ℕ) (next : ℕ)
   pub rolled-history-past : drop 256 history ≡ drop 256 (w .history)
   rolled-history-past =
       ap (drop 256) (r .history-is)
-      ∙ (drop-set (r .entry) next 256 65535 next-small ∙ drop-alike 256 (r .entry) (w .history) (r .enters .long) (λ i h. r .enters .past i (omega arith)))
+      ∙ (drop-set-lt 256 (r .entry) next 65535 next-small ∙ drop-alike 256 (r .entry) (w .history) (r .enters .long) (λ i h. r .enters .past i (omega arith)))
 
 -- ADVANCE: the history
 module _ (k : ℕ) (history : List ℕ) where
@@ -72,4 +72,4 @@ module _ (w : Written) (tag l i : ℕ) where
 
   pub written-past : Lent w → l < w .lines → drop (w .frames / 16 * w .lines) (withWritten w tag l i) ≡ drop (w .frames / 16 * w .lines) (w .groups)
   unfolding withWritten
-  written-past lent b = drop-set (w .groups) _ (w .frames / 16 * w .lines) _ (group-place w lent i l b)
+  written-past lent b = drop-set-lt (w .frames / 16 * w .lines) (w .groups) _ _ (group-place w lent i l b)

@@ -14,11 +14,11 @@ use Rattle.rules.specs.Figure3.{holds}
 use Rattle.rules.specs.Promise.{seenOf}
 use Rattle.rules.proofs.History.{version-line}
 use Rattle.frames.specs.Circle.{frameAt}
-use Rattle.frames.specs.Search.{greatest}
-use Rattle.frames.specs.declared.Found.{Found}
-use Rattle.frames.specs.declared.Found.the-variants.{At, Nothing}
+use Rattle.numbers.specs.Search.{greatest}
+use Rattle.numbers.specs.declared.Found.{Found}
+use Rattle.numbers.specs.declared.Found.the-variants.{At, Nothing}
 use Rattle.frames.proofs.Circle.{frame-below}
-use Rattle.frames.proofs.Search.{Greatest, greatest-found}
+use Rattle.numbers.proofs.Search.{Greatest, greatest-found}
 use Rattle.written.specs.Bits.{effective, newestFrom}
 use Rattle.written.proofs.Finding.{backOf, versionOf, found-back, version-back}
 use Rattle.pages.specs.Lines.{archiveLine}

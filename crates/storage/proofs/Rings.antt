@@ -5,10 +5,11 @@ use Prim.Native.Nat.{ℕ, _≤_, _<_, min}
 use native.Mathlib.Decide.{decLt}
 use native.Mathlib.Omega.{arith}
 use borrow.Author.Tests.{lt-ltb, le-ltb}
+use Rattle.written.specs.declared.Shape.{Shape}
 use Rattle.pages.specs.declared.Ring.{Ring}
 use Rattle.pages.specs.Ring.{Leading, Leads, Splits, indexAt}
 use Rattle.pages.proofs.Halving.{leads-splits}
-use Rattle.storage.specs.Storage.{Storage, startIn, ringAt, WellStore}
+use Rattle.storage.specs.Storage.{shapeAt, Storage, startIn, ringAt, WellStore}
 use Rattle.storage.specs.declared.Registers.{Registers}
 use Rattle.storage.specs.Steps.{PagesBelow, FirstPages}
 
@@ -31,9 +32,9 @@ pub used-same : (used pages : ℕ) → used ≤ pages → min used pages ≡ use
 used-same used pages b = omega arith
 
 -- in the form in which the code has its parts
-pub ring-told : (r : Registers) (first used : ℕ) → first ≡ startIn (r .first) (r .pages) → used ≡ min (r .used) (r .pages)
-    → _≡_ {A = Ring} (record { lines = r .lines; frames = r .frames; omf = r .omf; pages = r .pages; first = first; used = used }) (ringAt r)
-ring-told r first used f u = λ i. record { lines = r .lines; frames = r .frames; omf = r .omf; pages = r .pages; first = f i; used = u i }
+pub ring-told : (r : Registers) (shape : Shape) (first used : ℕ) → shape ≡ shapeAt r → first ≡ startIn (r .first) (r .pages) → used ≡ min (r .used) (r .pages)
+    → _≡_ {A = Ring} (record { shape = shape; pages = r .pages; first = first; used = used }) (ringAt r)
+ring-told r shape first used s f u = λ i. record { shape = s i; pages = r .pages; first = f i; used = u i }
 
 -- How many pages come first, by the registers themselves.
 pub ring-found : (x : Storage) → WellStore x → (limit n : ℕ) → PagesBelow (x .state .registers) (x .memory .owners) limit n

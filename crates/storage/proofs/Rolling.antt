@@ -43,6 +43,7 @@ use Rattle.storage.specs.declared.State.{State}
 use Rattle.versions.specs.Newest.{pageOf}
 use Rattle.storage.specs.Storage.{Storage, stateOf, storageOf, memoryOf, settingsIn, registersIn, lengthsIn, Recent, Coherent, liveIn, writtenIn, indexBack, frameIn, archiveIn, versionAt, latestIn, frameNumber, newestFrame, WellStore, store}
 use Rattle.storage.specs.Steps.{PagesBelow, rolledRegisters, rolledState, RolledTo}
+use Rattle.storage.specs.Contracts.{RollsBack}
 use Rattle.storage.proofs.Rings.{ring-found}
 use Rattle.storage.proofs.Limits.{Limits, limits}
 use Rattle.storage.proofs.Chains.{frames-room}
@@ -115,7 +116,7 @@ module _ (x : Storage) (q : WellStore x) (k : ℕ) (low : k ≤ liveIn (x .state
   gone-number : (o : Place) → Within n o → isDropped (x .state .registers .omf) (x .state .registers .frames) kept (frameNumber (x .state) o) ≡ dropped k o
   unfolding dropped isDropped frameNumber
   gone-number (in-frame j) h =
-      dropped-frame (x .state .registers .frames) (x .state .registers .omf) (lim .good .frames-to) (lim .fits .omf-below) kept (n - 1 - j) (omega (arith, lim .live-most))
+      dropped-frame (x .state .registers .frames) (x .state .registers .omf) (omega (arith, lim .good .frames-to)) (lim .fits .omf-below) kept (n - 1 - j) (omega (arith, lim .live-most))
       ∙ turned (decLt j k)
     where
       turned : Dec (j < k) → not (ltb (n - 1 - j) kept) ≡ ltb j k
@@ -207,9 +208,9 @@ module _ (x : Storage) (q : WellStore x) (k : ℕ) (low : k ≤ liveIn (x .state
 
 -- The promise: refused, and accepted. The tag given to the history is the state's, cut to its 8 bits.
 module _ (x : Storage) (k a : ℕ) (told : a ≡ admittedIn x (markedRefusal (liveIn (x .state)) k)) where
-  pub rollback-refused : a ≢ 0 → Promise store (ON (CHANGE (ROLLBACK k))) x (outcome a) x
+  pub rollback-refused : a ≢ 0 → RollsBack x k a x
   unfolding refusal actRefusal factsBy refused
-  rollback-refused z = turned-down x (ON (CHANGE (ROLLBACK k))) a told z
+  rollback-refused z = (turned-down x (ON (CHANGE (ROLLBACK k))) a told z, λ e. absurd (z e))
 
   module _ (z : a ≡ 0) (live : ℕ) (live-is : live ≡ liveIn (x .state)) (groups history : List ℕ) (next left : ℕ)
       (r : RolledBack (writtenIn x) (x .state .registers .tag % 256) (live - k) groups history next) (found : PagesBelow (x .state .registers) (x .memory .owners) (live - k) left) where
@@ -231,7 +232,7 @@ module _ (x : Storage) (k a : ℕ) (told : a ≡ admittedIn x (markedRefusal (li
     followed : WellStore x → Followed store (CHANGE (ROLLBACK k)) x (outcome 0) (after (rolledState (x .state) k next left))
     followed q =
         let tag : x .state .registers .tag % 256 ≡ x .state .registers .tag = omega (arith, q .bits .tag-below) in
-        rolled-followed x q k (frames-room (registersIn (x .state)) (lengthsIn (x .memory)) a k told z .k-low) groups history next left
+        rolled-followed x q k (omega (arith, frames-room (registersIn (x .state)) (lengthsIn (x .memory)) a k told z .k-low)) groups history next left
         (subst (λ (t : ℕ). RolledBack (writtenIn x) t (liveIn (x .state) - k) groups history next) tag exact) left-is
 
     promised : Promise store (ON (CHANGE (ROLLBACK k))) x (outcome 0) (after (rolledState (x .state) k next left))
@@ -248,13 +249,12 @@ module _ (x : Storage) (k a : ℕ) (told : a ≡ admittedIn x (markedRefusal (li
     -- in the form in which the code has the registers and the valid flags
     pub rollback-drops : (t : Registers) (valid : List ℕ) → t ≡ rolledRegisters (x .state .registers) k next left
         → valid ≡ flagsAfter (x .state .cache .frames) (x .state .registers .omf) (x .state .registers .frames) (live - k) (x .state .cache .valid)
-        → Promise store (ON (CHANGE (ROLLBACK k))) x (outcome 0) (after (stateOf t (withFlags (x .state .cache) valid)))
-        × RolledTo (x .state) (x .memory .groups) (x .memory .owners) (x .memory .history) k (stateOf t (withFlags (x .state .cache) valid)) groups history
+        → RollsBack x k 0 (after (stateOf t (withFlags (x .state .cache) valid)))
     unfolding rolledState forgotten
     rollback-drops t valid e flags =
         let same : stateOf t (withFlags (x .state .cache) valid) ≡ rolledState (x .state) k next left =
         λ i. stateOf (e i) (withFlags (x .state .cache) ((flags ∙ ap (λ (n : ℕ). flagsAfter (x .state .cache .frames) (x .state .registers .omf) (x .state .registers .frames) n (x .state .cache .valid)) kept-is) i))
         in (
           subst (λ (s : State). Promise store (ON (CHANGE (ROLLBACK k))) x (outcome 0) (after s)) (sym same) promised,
-          subst (λ (s : State). RolledTo (x .state) (x .memory .groups) (x .memory .owners) (x .memory .history) k s groups history) (sym same) (record { state = refl; pages = left-is; memory = exact }),
+          λ d. subst (λ (s : State). RolledTo (x .state) (x .memory .groups) (x .memory .owners) (x .memory .history) k s groups history) (sym same) (record { state = refl; pages = left-is; memory = exact }),
         )

@@ -3,100 +3,117 @@ use mathlib.Core.Path.{_≡_, sym, _∙_, ap, subst}
 use mathlib.Core.List.{List}
 use Prim.Native.Nat.{ℕ, _-_, _≤_, _<_, min}
 use native.Mathlib.Omega.{arith}
-use lib.ListN.{length}
+use lib.ListN.{length, set}
 use Rattle.rules.specs.Settings.{Pieces, elements}
 use Rattle.rules.specs.Registers as rules
-use Rattle.frames.specs.declared.Found.{Found}
-use Rattle.written.specs.Bits.{writtenOf}
+use Rattle.numbers.specs.declared.Found.{Found}
+use Rattle.frames.specs.Circle.{frameAt}
+use Rattle.written.specs.Bits.{writtenAt, writtenOf, Lent}
+use Rattle.written.specs.Steps.{RolledBack}
+use Rattle.written.specs.declared.Shape.{Shape}
 use Rattle.pages.specs.declared.Ring.{Ring}
-use Rattle.pages.specs.Ring.{pageAt, indexAt, AsksRing, Leading, Leads}
+use Rattle.pages.specs.Table.{placeAt, entryAt}
+use Rattle.pages.specs.Ring.{nthPage, indexAt, AsksRing, Leading, Leads}
+use Rattle.versions.specs.declared.Version.{Version}
+use Rattle.versions.specs.Newest.{latestHeld}
 use Rattle.versions.specs.Steps.{foldedPages, clearedPages, pageFor, usedFor, AsksPageFor, AsksFold, AsksGone}
 use Rattle.storage.specs.declared.Registers.{Registers}
 use Rattle.storage.specs.Storage.{startIn}
-use Rattle.storage.proofs.Admitting.{Room, room-lent, room-ring, room-page}
+use Rattle.storage.specs.Admit.{Room}
+use Rattle.storage.proofs.Admitting.{room-lent, room-ring, room-page}
 
 -- The ring by the registers that it is made of.
 abbrev seen : (lines frames omf pages first used : ℕ) → Ring
-seen lines frames omf pages first used = record { lines = lines; frames = frames; omf = omf; pages = pages; first = startIn first pages; used = min used pages }
+seen lines frames omf pages first used =
+    record { shape = record { lines = lines; frames = frames; omf = omf }; pages = pages; first = startIn first pages; used = min used pages }
 
 -- What the layers ask of it.
 module _ (s : rules.Registers) (p : Pieces) (g : Room s p) (first used : ℕ) (ring : Ring)
     (is : ring ≡ seen (s .settings .lines) (s .settings .frames) (s .omf) (s .settings .pages) first used) where
-  pub seen-asks : AsksRing (ring .pages) (ring .first) (ring .used) (ring .frames) (ring .omf) (p .owners)
-  seen-asks = subst (λ (y : Ring). AsksRing (y .pages) (y .first) (y .used) (y .frames) (y .omf) (p .owners)) (sym is) (room-ring s p g first used)
+  pub seen-asks : AsksRing (ring .pages) (ring .first) (ring .used) (ring .shape .frames) (ring .shape .omf) (p .owners)
+  seen-asks = subst (λ (y : Ring). AsksRing (y .pages) (y .first) (y .used) (y .shape .frames) (y .shape .omf) (p .owners)) (sym is) (room-ring s p g first used)
 
   pub seen-page-asks : (line : ℕ) → line < s .settings .lines
-      → AsksPageFor (ring .lines) (ring .frames) (ring .omf) (ring .pages) (ring .first) (ring .used) (s .cmf) line (p .table) (p .owners)
+      → AsksPageFor (ring .shape .lines) (ring .shape .frames) (ring .shape .omf) (ring .pages) (ring .first) (ring .used) (s .cmf) line (p .table) (p .owners)
   seen-page-asks line b =
-      subst (λ (y : Ring). AsksPageFor (y .lines) (y .frames) (y .omf) (y .pages) (y .first) (y .used) (s .cmf) line (p .table) (p .owners)) (sym is) (room-page s p g first used line b)
+      subst (λ (y : Ring). AsksPageFor (y .shape .lines) (y .shape .frames) (y .shape .omf) (y .pages) (y .first) (y .used) (s .cmf) line (p .table) (p .owners)) (sym is) (room-page s p g first used line b)
 
 -- What an advance asks.
 module _ (s : rules.Registers) (archive pool table owners : ℕ) (groups history : List ℕ)
     (g : Room s (record { archive = archive; pool = pool; groups = length groups; table = table; owners = owners; history = length history })) (first used : ℕ) (ring : Ring)
     (is : ring ≡ seen (s .settings .lines) (s .settings .frames) (s .omf) (s .settings .pages) first used) where
-  pub seen-fold-asks : AsksFold (writtenOf (ring .lines) (ring .frames) (ring .omf) groups history) (ring .pages) (ring .first) (ring .used) archive pool owners
+  pub seen-fold-asks : AsksFold (writtenAt (ring .shape) groups history) (ring .pages) (ring .first) (ring .used) archive pool owners
   unfolding elements
   seen-fold-asks =
-      subst (λ (y : Ring). AsksFold (writtenOf (y .lines) (y .frames) (y .omf) groups history) (y .pages) (y .first) (y .used) archive pool owners) (sym is)
+      subst (λ (y : Ring). AsksFold (writtenAt (y .shape) groups history) (y .pages) (y .first) (y .used) archive pool owners) (sym is)
       (record {
         lent = room-lent s archive pool table owners groups history g;
-        lines-by = g .good .lines-by;
+        lines-by = g .lines-by;
         ring = room-ring s _ g first used;
-        archive-long = g .long .archive;
-        pool-long = g .long .pool;
+        archive-long = g .archive-long;
+        pool-long = g .pool-long;
       })
 
 module _ (s : rules.Registers) (archive pool groups table history : ℕ) (owners : List ℕ)
     (g : Room s (record { archive = archive; pool = pool; groups = groups; table = table; owners = length owners; history = history })) (first used : ℕ) (ring : Ring)
     (is : ring ≡ seen (s .settings .lines) (s .settings .frames) (s .omf) (s .settings .pages) first used) where
-  pub seen-gone-asks : (k gone : ℕ) → k ≤ s .settings .frames → Leads (ring .used) (indexAt (ring .frames) (ring .omf) (ring .pages) (ring .first) owners) k gone
-      → AsksGone (ring .lines) (ring .frames) (ring .omf) (ring .pages) (ring .first) (ring .used) owners gone groups
+  pub seen-gone-asks : (k gone : ℕ) → k ≤ s .settings .frames → Leads (ring .used) (indexAt (ring .shape .frames) (ring .shape .omf) (ring .pages) (ring .first) owners) k gone
+      → AsksGone (ring .shape .lines) (ring .shape .frames) (ring .shape .omf) (ring .pages) (ring .first) (ring .used) owners gone groups
   unfolding elements
   seen-gone-asks k gone few =
       subst
-      (λ (y : Ring). Leads (y .used) (indexAt (y .frames) (y .omf) (y .pages) (y .first) owners) k gone → AsksGone (y .lines) (y .frames) (y .omf) (y .pages) (y .first) (y .used) owners gone groups)
+      (λ (y : Ring). Leads (y .used) (indexAt (y .shape .frames) (y .shape .omf) (y .pages) (y .first) owners) k gone → AsksGone (y .shape .lines) (y .shape .frames) (y .shape .omf) (y .pages) (y .first) (y .used) owners gone groups)
       (sym is)
       (λ h.
       record {
-        lines-few = g .good .lines-to;
-        frames-by = g .good .frames-by;
+        lines-few = g .lines-to;
+        frames-by = g .frames-by;
         ring = room-ring s _ g first used;
         gone-few = h .few;
         inside = λ i b. omega (arith, h .low i b);
-        groups-long = g .long .groups;
+        groups-long = g .groups-long;
       })
 
 -- What they say of it.
 module _ (lines frames omf pages first used : ℕ) (ring : Ring) (is : ring ≡ seen lines frames omf pages first used) where
-  pub seen-below : (owners : List ℕ) (limit n : ℕ) → Leading (ring .used) (indexAt (ring .frames) (ring .omf) (ring .pages) (ring .first) owners) limit n
-      → Leading (min used pages) (indexAt frames omf pages (startIn first pages) owners) limit n
-  seen-below owners limit n = subst (λ (y : Ring). Leading (y .used) (indexAt (y .frames) (y .omf) (y .pages) (y .first) owners) limit n) is
+  pub seen-lent : (groups history : List ℕ) → Lent (writtenOf lines frames omf groups history) → Lent (writtenAt (ring .shape) groups history)
+  seen-lent groups history = subst (λ (y : Ring). Lent (writtenAt (y .shape) groups history)) (sym is)
 
-  pub seen-first : (owners : List ℕ) (k n : ℕ) → Leads (ring .used) (indexAt (ring .frames) (ring .omf) (ring .pages) (ring .first) owners) k n
+  pub seen-rolled : (groups history : List ℕ) (tag kept : ℕ) (groups-after history-after : List ℕ) (next : ℕ)
+      → RolledBack (writtenAt (ring .shape) groups history) tag kept groups-after history-after next
+      → RolledBack (writtenOf lines frames omf groups history) tag kept groups-after history-after next
+  seen-rolled groups history tag kept groups-after history-after next =
+      subst (λ (y : Ring). RolledBack (writtenAt (y .shape) groups history) tag kept groups-after history-after next) is
+
+  pub seen-below : (owners : List ℕ) (limit n : ℕ) → Leading (ring .used) (indexAt (ring .shape .frames) (ring .shape .omf) (ring .pages) (ring .first) owners) limit n
+      → Leading (min used pages) (indexAt frames omf pages (startIn first pages) owners) limit n
+  seen-below owners limit n = subst (λ (y : Ring). Leading (y .used) (indexAt (y .shape .frames) (y .shape .omf) (y .pages) (y .first) owners) limit n) is
+
+  pub seen-first : (owners : List ℕ) (k n : ℕ) → Leads (ring .used) (indexAt (ring .shape .frames) (ring .shape .omf) (ring .pages) (ring .first) owners) k n
       → Leads (min used pages) (indexAt frames omf pages (startIn first pages) owners) k n
-  seen-first owners k n = subst (λ (y : Ring). Leads (y .used) (indexAt (y .frames) (y .omf) (y .pages) (y .first) owners) k n) is
+  seen-first owners k n = subst (λ (y : Ring). Leads (y .used) (indexAt (y .shape .frames) (y .shape .omf) (y .pages) (y .first) owners) k n) is
 
   pub seen-folded : (groups history pool owners archive after : List ℕ) (gone : ℕ)
-      → after ≡ foldedPages (writtenOf (ring .lines) (ring .frames) (ring .omf) groups history) (ring .pages) (ring .first) pool owners gone archive
+      → after ≡ foldedPages (writtenAt (ring .shape) groups history) (ring .pages) (ring .first) pool owners gone archive
       → after ≡ foldedPages (writtenOf lines frames omf groups history) pages (startIn first pages) pool owners gone archive
   seen-folded groups history pool owners archive after gone e =
-      e ∙ ap (λ (y : Ring). foldedPages (writtenOf (y .lines) (y .frames) (y .omf) groups history) (y .pages) (y .first) pool owners gone archive) is
+      e ∙ ap (λ (y : Ring). foldedPages (writtenAt (y .shape) groups history) (y .pages) (y .first) pool owners gone archive) is
 
-  pub seen-cleared : (groups owners after : List ℕ) (gone : ℕ) → after ≡ clearedPages (ring .lines) (ring .pages) (ring .first) owners gone groups
+  pub seen-cleared : (groups owners after : List ℕ) (gone : ℕ) → after ≡ clearedPages (ring .shape .lines) (ring .pages) (ring .first) owners gone groups
       → after ≡ clearedPages lines pages (startIn first pages) owners gone groups
-  seen-cleared groups owners after gone e = e ∙ ap (λ (y : Ring). clearedPages (y .lines) (y .pages) (y .first) owners gone groups) is
+  seen-cleared groups owners after gone e = e ∙ ap (λ (y : Ring). clearedPages (y .shape .lines) (y .pages) (y .first) owners gone groups) is
 
-  pub seen-page : (table owners : List ℕ) (f l : ℕ) (page : Found) → page ≡ pageFor (ring .lines) (ring .pages) (ring .first) (ring .used) table owners f l
+  pub seen-page : (table owners : List ℕ) (f l : ℕ) (page : Found) → page ≡ pageFor (ring .shape .lines) (ring .pages) (ring .first) (ring .used) table owners f l
       → page ≡ pageFor lines pages (startIn first pages) (min used pages) table owners f l
-  seen-page table owners f l page e = e ∙ ap (λ (y : Ring). pageFor (y .lines) (y .pages) (y .first) (y .used) table owners f l) is
+  seen-page table owners f l page e = e ∙ ap (λ (y : Ring). pageFor (y .shape .lines) (y .pages) (y .first) (y .used) table owners f l) is
 
-  pub seen-used : (table owners : List ℕ) (f l now : ℕ) → now ≡ usedFor (ring .lines) (ring .pages) (ring .first) (ring .used) table owners f l
+  pub seen-used : (table owners : List ℕ) (f l now : ℕ) → now ≡ usedFor (ring .shape .lines) (ring .pages) (ring .first) (ring .used) table owners f l
       → now ≡ usedFor lines pages (startIn first pages) (min used pages) table owners f l
-  seen-used table owners f l now e = e ∙ ap (λ (y : Ring). usedFor (y .lines) (y .pages) (y .first) (y .used) table owners f l) is
+  seen-used table owners f l now e = e ∙ ap (λ (y : Ring). usedFor (y .shape .lines) (y .pages) (y .first) (y .used) table owners f l) is
 
-  pub seen-advanced : (cmf next tag gone start : ℕ) → start ≡ pageAt (ring .pages) (ring .first) gone
+  pub seen-advanced : (cmf next tag gone start : ℕ) → start ≡ nthPage (ring .pages) (ring .first) gone
       → _≡_ {A = Registers} (record { lines = lines; frames = frames; pages = pages; cmf = cmf; omf = next; tag = tag; first = start; used = ring .used - gone })
-      (record { lines = lines; frames = frames; pages = pages; cmf = cmf; omf = next; tag = tag; first = pageAt pages (startIn first pages) gone; used = min used pages - gone })
+      (record { lines = lines; frames = frames; pages = pages; cmf = cmf; omf = next; tag = tag; first = nthPage pages (startIn first pages) gone; used = min used pages - gone })
   seen-advanced cmf next tag gone start e = λ i.
       record {
         lines = lines;
@@ -105,6 +122,22 @@ module _ (lines frames omf pages first used : ℕ) (ring : Ring) (is : ring ≡ 
         cmf = cmf;
         omf = next;
         tag = tag;
-        first = (e ∙ ap (λ (y : Ring). pageAt (y .pages) (y .first) gone) is) i;
+        first = (e ∙ ap (λ (y : Ring). nthPage (y .pages) (y .first) gone) is) i;
         used = ap (λ (y : Ring). y .used - gone) is i;
       }
+
+-- What a write's place is, by the shape, and the version before it.
+module _ (shape at : Shape) (is : shape ≡ at) where
+  pub shape-entry : (index block page : ℕ) (before after : List ℕ) → after ≡ set before (entryAt (shape .lines) (frameAt (shape .frames) (shape .omf) index) block) page
+      → after ≡ set before (entryAt (at .lines) (frameAt (at .frames) (at .omf) index) block) page
+  shape-entry index block page before after e = e ∙ ap (λ (y : Shape). set before (entryAt (y .lines) (frameAt (y .frames) (y .omf) index) block) page) is
+
+  pub shape-owner : (index block page : ℕ) (before after : List ℕ) → after ≡ set before page (placeAt (frameAt (shape .frames) (shape .omf) index) block)
+      → after ≡ set before page (placeAt (frameAt (at .frames) (at .omf) index) block)
+  shape-owner index block page before after e = e ∙ ap (λ (y : Shape). set before page (placeAt (frameAt (y .frames) (y .omf) index) block)) is
+
+  pub shape-latest : (held origins valid bytes groups history : List ℕ) (pages live : ℕ) (archive pool table : List ℕ) (line : ℕ) (v : Version)
+      → v ≡ latestHeld held origins valid bytes (writtenAt shape groups history) pages live archive pool table line
+      → v ≡ latestHeld held origins valid bytes (writtenAt at groups history) pages live archive pool table line
+  shape-latest held origins valid bytes groups history pages live archive pool table line v e =
+      e ∙ ap (λ (y : Shape). latestHeld held origins valid bytes (writtenAt y groups history) pages live archive pool table line) is

@@ -10,8 +10,8 @@ use native.Mathlib.Omega.{arith}
 use borrow.Author.Tests.{lt-ltb, le-ltb}
 use lib.Dec.{ltb}
 use lib.ListN.{length, set, drop, take, length-set, length-take, length-drop, replicate, getD-replicate}
-use lib.Seq.{ext-getD, getD-take, getD-drop}
-use Rattle.rules.specs.Settings.{Settings, Pieces, within, elements, enough}
+use lib.Seq.{ext-getD, getD-take, getD-drop, drop-set-lt}
+use Rattle.rules.specs.Settings.{Settings, Pieces, within, elements, enough, covers}
 use Rattle.rules.specs.Sizing.{settingsOf}
 use Rattle.rules.specs.Line.{Line, zeros}
 use Rattle.rules.specs.Call.{refused}
@@ -27,9 +27,9 @@ use Rattle.rules.proofs.Chain.{passed}
 use Rattle.rules.proofs.Registers.{facts-fit, live-start}
 use Rattle.rules.proofs.WellSteps.{initial-well}
 use Rattle.rules.proofs.WellCache.{empty-well}
-use Rattle.frames.specs.Lists.{rewrite}
-use Rattle.frames.specs.Lines.{lineAt}
-use Rattle.frames.proofs.Lists.{drop-set, rewrite-drop, rewrite-length, rewrite-at}
+use Rattle.lists.specs.Lists.{rewrite}
+use Rattle.lists.specs.Lines.{lineAt}
+use Rattle.lists.proofs.Lists.{rewrite-drop, rewrite-length, rewrite-at}
 use Rattle.written.specs.Steps.{blanked, AsksReset}
 use Rattle.written.specs.Well.{WellBits}
 use Rattle.written.proofs.Keeping.{started-effective, started-well}
@@ -41,8 +41,8 @@ use Rattle.cache.proofs.Uses.{empty-shown, empty-all, empty-sized}
 use Rattle.versions.specs.Steps.{zeroed}
 use Rattle.storage.specs.Storage.{Storage, stateOf, storageOf, memoryOf, lengthsIn, liveIn, writtenIn, indexBack, versionAt, frameIn, archiveIn, Recent, WellStore, store}
 use Rattle.storage.specs.declared.State.{State}
-use Rattle.storage.specs.Steps.{freshState, ResetTo}
-use Rattle.storage.specs.Admit.{covers}
+use Rattle.storage.specs.Steps.{freshState}
+use Rattle.storage.specs.Contracts.{Resets}
 use Rattle.storage.proofs.Admitting.{Long, covers-long, long-covers}
 use Rattle.storage.proofs.Figures.{frame-at, frame-live, frame-past, step-versions, step-archive}
 use Rattle.storage.proofs.Looking.{turned-down, let-through}
@@ -102,7 +102,7 @@ module _ (asked : Settings) (m : Storage) (good : Good asked) (long : Long (elem
   archive-long = long .archive
 
   long-enough : enough asked (lengthsIn (m .memory)) ≡ true
-  unfolding enough covers
+  unfolding covers
   long-enough = long-covers (elements asked) (lengthsIn (m .memory)) long
 
   groups-long : asked .frames / 16 * lines ≤ length (m .memory .groups)
@@ -181,7 +181,7 @@ module _ (lines frames pages a : ℕ) (p : Pieces) (told : a ≡ askedRefusal p 
   reset-good = within-good (settingsOf lines frames pages) (tests .0)
 
   pub reset-long : Long (elements (settingsOf lines frames pages)) p
-  unfolding covers enough
+  unfolding covers
   reset-long = covers-long (elements (settingsOf lines frames pages)) p (tests .1)
 
   pub zero-asks : (lines ≤ 4096) × (16 * lines ≤ p .archive)
@@ -198,9 +198,9 @@ module _ (x : Storage) (lines frames pages a : ℕ) (told : a ≡ askedRefusal (
   abbrev asked : Settings
   asked = settingsOf lines frames pages
 
-  pub reset-refused : a ≢ 0 → Promise store (RESET asked) x (outcome a) x
+  pub reset-refused : a ≢ 0 → Resets x lines frames pages a x
   unfolding refusal factsBy refused
-  reset-refused z = turned-down x (RESET asked) a told z
+  reset-refused z = (turned-down x (RESET asked) a told z, λ e. absurd (z e))
 
   module _ (z : a ≡ 0) where
     abbrev good-asked : Good asked
@@ -215,11 +215,10 @@ module _ (x : Storage) (lines frames pages a : ℕ) (told : a ≡ askedRefusal (
         let-through x (RESET asked) a told z refl (begun-started asked x good-asked long-asked) (lengths asked x good-asked long-asked)
         (ap₂ (λ (a : List ℕ) (p : List ℕ × List ℕ). memoryOf a (drop (128 * pages) (x .memory .pool)) (p .0) (drop (frames * (lines / 8)) (x .memory .table)) (drop pages (x .memory .owners)) (p .1))
         (rewrite-drop _ (x .memory .archive) (16 * lines) (16 * lines) (omega arith))
-        (ap₂ (λ (g h : List ℕ). (g, h)) (rewrite-drop _ (x .memory .groups) (frames / 16 * lines) (frames / 16 * lines) (omega arith)) (drop-set (x .memory .history) 0 256 65535 (omega arith))))
+        (ap₂ (λ (g h : List ℕ). (g, h)) (rewrite-drop _ (x .memory .groups) (frames / 16 * lines) (frames / 16 * lines) (omega arith)) (drop-set-lt 256 (x .memory .history) 0 65535 (omega arith))))
 
     pub reset-begins : (archive groups history : List ℕ) (s : State) → archive ≡ zeroed lines (x .memory .archive) → groups ≡ blanked lines frames (x .memory .groups)
         → history ≡ set (x .memory .history) 0 65535 → s ≡ freshState lines frames pages
-        → Promise store (RESET asked) x (outcome 0) (storageOf s archive (x .memory .pool) groups (x .memory .table) (x .memory .owners) history)
-        × ResetTo lines frames pages (x .memory .archive) (x .memory .groups) (x .memory .history) s archive groups history
+        → Resets x lines frames pages 0 (storageOf s archive (x .memory .pool) groups (x .memory .table) (x .memory .owners) history)
     reset-begins archive groups history s ea eg eh es =
-        (rw ea (rw eg (rw eh (rw es promised))), record { state = es; archive-is = ea; groups-is = eg; history-is = eh })
+        (rw ea (rw eg (rw eh (rw es promised))), λ d. record { state = es; archive-is = ea; groups-is = eg; history-is = eh })

@@ -6,6 +6,7 @@ use mathlib.Core.List.{List}
 use Prim.Native.Nat.{ℕ, _+_, _-_, _*_, _/_, _%_, _≤_, _<_}
 use native.Mathlib.Omega.{arith}
 use lib.ListN.{length, drop, set, length-set}
+use lib.Seq.{drop-set-lt}
 use Rattle.rules.specs.Settings.{elements}
 use Rattle.rules.specs.Line.{Line, lineOf, offsetOf, edit}
 use Rattle.rules.specs.Call.{refused}
@@ -20,25 +21,26 @@ use Rattle.rules.proofs.Promise.{lacking-own, refuse, accept}
 use Rattle.rules.proofs.Chain.{Placed}
 use Rattle.rules.proofs.Width.{line-below}
 use Rattle.frames.specs.Circle.{frameAt}
-use Rattle.frames.specs.declared.Found.{Found}
-use Rattle.frames.specs.declared.Found.the-variants.{At, Nothing}
+use Rattle.numbers.specs.declared.Found.{Found}
+use Rattle.numbers.specs.declared.Found.the-variants.{At, Nothing}
 use Rattle.frames.proofs.Circle.{frame-below}
-use Rattle.frames.proofs.Lists.{drop-set}
-use Rattle.frames.proofs.Lines.{length-written, past-written}
+use Rattle.lists.proofs.Lines.{length-written, past-written}
 use Rattle.written.specs.Bits.{Lent}
 use Rattle.written.specs.Steps.{withWritten}
 use Rattle.pages.specs.Lines.{withPageLine}
-use Rattle.pages.specs.Table.{placeAt}
+use Rattle.pages.specs.Table.{placeAt, entryAt}
 use Rattle.cache.specs.declared.Cache.{Cache}
 use Rattle.cache.specs.Steps.{placed}
 use Rattle.versions.specs.declared.Version.{Version}
-use Rattle.versions.specs.Newest.{entryAt, latestOf}
+use Rattle.versions.specs.Newest.{latestOf}
 use Rattle.versions.specs.Steps.{pageFor, usedFor}
 use Rattle.versions.proofs.Finding.{entry-within}
 use Rattle.storage.specs.Storage.{Storage, stateOf, ringAt, Memory, memoryOf, settingsIn, registersIn, lengthsIn, pastIn, liveIn, writtenIn, WellStore, store}
 use Rattle.storage.specs.Steps.{givenRegisters, usedState, contentAfter, currentPlace, currentEntry, WroteTo, Put, AsksWrite}
+use Rattle.storage.specs.Admit.{Room}
+use Rattle.storage.specs.Contracts.{Writes}
 use Rattle.storage.proofs.Rings.{start-below}
-use Rattle.storage.proofs.Admitting.{Room, room-lent, room-newest}
+use Rattle.storage.proofs.Admitting.{room-lent, room-newest}
 use Rattle.storage.proofs.Chains.{write-stands, write-decides, write-room}
 use Rattle.storage.proofs.Looking.{admittedIn, turned-down}
 use Rattle.storage.proofs.Past.{written-long, written-past}
@@ -51,7 +53,7 @@ pub put-told : (x : Storage) (wd a v live page : ℕ) (latest : Version)
     → latest ≡ latestOf (x .state .cache) (writtenIn x) (x .state .registers .pages) live (x .memory .archive) (x .memory .pool) (x .memory .table) (lineOf a)
     → (content : Line) → content ≡ edit wd (offsetOf a) v (latest .content) → length content ≡ 16 → (pool groups table owners : List ℕ)
     → pool ≡ withPageLine (x .memory .pool) page (lineOf a % 8) content → groups ≡ withWritten (writtenIn x) (x .state .registers .tag % 256) (lineOf a) (live - 1)
-    → table ≡ set (x .memory .table) (entryAt (x .state .registers .lines) (frameAt (x .state .registers .frames) (x .state .registers .omf) (live - 1)) (lineOf a)) page
+    → table ≡ set (x .memory .table) (entryAt (x .state .registers .lines) (frameAt (x .state .registers .frames) (x .state .registers .omf) (live - 1)) ((lineOf a) / 8)) page
     → owners ≡ set (x .memory .owners) page (placeAt (frameAt (x .state .registers .frames) (x .state .registers .omf) (live - 1)) (lineOf a / 8))
     → (cache : Cache) → cache ≡ placed (x .state .cache) (lineOf a) (x .state .registers .cmf) content
     → Put x wd a v live page cache (memoryOf (x .memory .archive) pool groups table owners (x .memory .history))
@@ -78,9 +80,9 @@ module _ (x : Storage) (wd a v r : ℕ) (told : r ≡ admittedIn x (writeRefusal
   chain : (rest : ℕ) → r ≢ 0 → r ≡ admittedIn x (writeRefusal (settingsIn (x .state)) wd a v rest)
   chain rest z = write-stands (registersIn (x .state)) (lengthsIn (x .memory)) wd a v r told z rest
 
-  pub write-refused : r ≢ 0 → Promise store (ON (CHANGE (WRITE wd a v))) x (outcome r) x
+  pub write-refused : r ≢ 0 → Writes x wd a v r x
   unfolding refusal actRefusal factsBy refused
-  write-refused z = turned-down x (ON (CHANGE (WRITE wd a v))) r (chain _ z) z
+  write-refused z = (turned-down x (ON (CHANGE (WRITE wd a v))) r (chain _ z) z, λ e. absurd (z e))
 
   module _ (z : r ≡ 0) where
     decides : (rest : ℕ) → rest ≡ admittedIn x (writeRefusal (settingsIn (x .state)) wd a v rest)
@@ -98,7 +100,7 @@ module _ (x : Storage) (wd a v r : ℕ) (told : r ≡ admittedIn x (writeRefusal
     page-few : (page : ℕ) → choice ≡ At page → page < x .state .registers .pages
     page-few page found =
         page-below (x .state .registers .lines) (x .state .registers .pages) (ringAt (x .state .registers) .first) (ringAt (x .state .registers) .used) (x .memory .table) (x .memory .owners) (x .state .registers .cmf) l page
-        (start-below (x .state .registers .first) (x .state .registers .pages) (room .good .pages-from)) found
+        (start-below (x .state .registers .first) (x .state .registers .pages) (room .pages-from)) found
 
     -- what the layers ask
     pub asks-write : (live page : ℕ) → live ≡ liveIn (x .state) → choice ≡ At page → AsksWrite x wd a live page
@@ -113,21 +115,23 @@ module _ (x : Storage) (wd a v r : ℕ) (told : r ≡ admittedIn x (writeRefusal
                 line-below = below;
                 index-below = omega (arith, newest .live-some, newest .live-within);
                 tag-below = omega arith;
-                pages-few = room .good .pages-to;
+                pages-few = room .pages-to;
                 page-below = page-few page found;
-                pool-long = room .long .pool;
-                owners-long = room .long .owners;
+                pool-long = room .pool-long;
+                owners-long = room .owners-long;
               };
           bytes = write-room (registersIn (x .state)) (lengthsIn (x .memory)) r wd a v told z .0 .bytes;
-          cmf-below = room .fits .cmf-below;
+          cmf-below = room .cmf-below;
         }
 
     -- 13
-    pub write-full : choice ≡ Nothing → Promise store (ON (CHANGE (WRITE wd a v))) x (outcome 13) x
+    pub write-full : choice ≡ Nothing → Writes x wd a v 13 x
     unfolding refusal actRefusal factsBy refused unless lacks
-    write-full e =
-        subst (λ (n : ℕ). Promise store (ON (CHANGE (WRITE wd a v))) x (outcome n) x) (sym (decides 13))
-        (refuse store (ON (CHANGE (WRITE wd a v))) x (λ c. true) (λ q. lacking-own store x (CHANGE (WRITE wd a v)) true (sym (none-chosen x q l below e))) (λ d. let n : _≡_ {A = ℕ} 13 0 = decides 13 ∙ d in absurd (omega arith)))
+    write-full e = (
+      subst (λ (n : ℕ). Promise store (ON (CHANGE (WRITE wd a v))) x (outcome n) x) (sym (decides 13))
+          (refuse store (ON (CHANGE (WRITE wd a v))) x (λ c. true) (λ q. lacking-own store x (CHANGE (WRITE wd a v)) true (sym (none-chosen x q l below e))) (λ d. let n : _≡_ {A = ℕ} 13 0 = decides 13 ∙ d in absurd (omega arith))),
+      λ d. absurd (omega arith),
+    )
 
     module _ (picked : Found) (picked-is : picked ≡ choice) (page : ℕ) (at-page : picked ≡ At page) (live : ℕ) (live-is : live ≡ liveIn (x .state)) (cache : Cache) (memory : Memory) (put : Put x wd a v live page cache memory)
         (next : ℕ) (next-is : next ≡ used-then) where
@@ -142,14 +146,14 @@ module _ (x : Storage) (wd a v r : ℕ) (told : r ≡ admittedIn x (writeRefusal
 
       -- Inside the lent memory, on any storage.
       abbrev entry : ℕ
-      entry = entryAt (x .state .registers .lines) (frameAt (x .state .registers .frames) (x .state .registers .omf) (live - 1)) l
+      entry = entryAt (x .state .registers .lines) (frameAt (x .state .registers .frames) (x .state .registers .omf) (live - 1)) (l / 8)
 
       abbrev place : ℕ
       place = placeAt (frameAt (x .state .registers .frames) (x .state .registers .omf) (live - 1)) (l / 8)
 
       pool-room : 128 * x .state .registers .pages ≤ length (x .memory .pool)
       unfolding elements
-      pool-room = room .long .pool
+      pool-room = room .pool-long
 
       abbrev at : ℕ
       at = 128 * page + 16 * (l % 8)
@@ -175,8 +179,8 @@ module _ (x : Storage) (wd a v r : ℕ) (told : r ≡ admittedIn x (writeRefusal
           memoryOf (drop (16 * x .state .registers .lines) (x .memory .archive))
           (past-written (x .memory .pool) (put .content) at (omega (arith, pool-room, below-pages)) (put .content-long) (128 * x .state .registers .pages) (omega (arith, below-pages)) i)
           (written-past (writtenIn x) (x .state .registers .tag % 256) l (live - 1) lent below i)
-          (drop-set (x .memory .table) entry (x .state .registers .frames * (x .state .registers .lines / 8)) page (entry-within (x .state .registers .lines) (x .state .registers .frames) (frameAt (x .state .registers .frames) (x .state .registers .omf) (live - 1)) l (room .good .lines-by) (frame-below (x .state .registers .frames) (x .state .registers .omf) (room .fits .omf-below) (live - 1)) below) i)
-          (drop-set (x .memory .owners) page (x .state .registers .pages) place below-pages i)
+          (drop-set-lt (x .state .registers .frames * (x .state .registers .lines / 8)) (x .memory .table) entry page (entry-within (x .state .registers .lines) (x .state .registers .frames) (frameAt (x .state .registers .frames) (x .state .registers .omf) (live - 1)) l (room .lines-by) (frame-below (x .state .registers .frames) (x .state .registers .omf) (room .omf-below) (live - 1)) below) i)
+          (drop-set-lt (x .state .registers .pages) (x .memory .owners) page place below-pages i)
           (drop 256 (x .memory .history)))
         where
           lent : Lent (writtenIn x)
@@ -209,10 +213,10 @@ module _ (x : Storage) (wd a v r : ℕ) (told : r ≡ admittedIn x (writeRefusal
             put .memory-is
             ∙ (λ i.
             memoryOf (x .memory .archive) (withPageLine (x .memory .pool) page (l % 8) (same-content i)) (withWritten (writtenIn x) (tag i) l (live-is i - 1))
-            (set (x .memory .table) (entryAt (x .state .registers .lines) (frameAt (x .state .registers .frames) (x .state .registers .omf) (live-is i - 1)) l) page)
+            (set (x .memory .table) (entryAt (x .state .registers .lines) (frameAt (x .state .registers .frames) (x .state .registers .omf) (live-is i - 1)) (l / 8)) page)
             (set (x .memory .owners) page (placeAt (frameAt (x .state .registers .frames) (x .state .registers .omf) (live-is i - 1)) (l / 8))) (x .memory .history))
 
-        pub write-left : WroteTo x wd a v t
+        write-left : WroteTo x wd a v t
         write-left =
             record {
               state = same-state ∙ ap (λ (u : ℕ). usedState (x .state) u (placed (x .state .cache) l (x .state .registers .cmf) (contentAfter x wd a v))) (c .used-is);
@@ -229,8 +233,10 @@ module _ (x : Storage) (wd a v r : ℕ) (told : r ≡ admittedIn x (writeRefusal
             subst (λ (y : Storage). Followed store (CHANGE (WRITE wd a v)) x (outcome 0) y) (sym (λ i. record { state = same-state i; memory = same-memory i }))
             (stored-followed x q wd a v placed-there below used-then page c)
 
-      pub write-done : Promise store (ON (CHANGE (WRITE wd a v))) x (outcome 0) t
+      pub write-done : Writes x wd a v 0 t
       unfolding refusal actRefusal factsBy refused unless settingsFor lacks registersStep
-      write-done =
-          accept store (ON (CHANGE (WRITE wd a v))) x (λ c. false) (λ q. lacking-own store x (CHANGE (WRITE wd a v)) false (sym (c q .free))) (sym (decides 0)) refl
-          (record { registers = refl; followed = followed }) lengths past
+      write-done = (
+        accept store (ON (CHANGE (WRITE wd a v))) x (λ c. false) (λ q. lacking-own store x (CHANGE (WRITE wd a v)) false (sym (c q .free))) (sym (decides 0)) refl
+            (record { registers = refl; followed = followed }) lengths past,
+        λ e. write-left,
+      )

@@ -3,9 +3,9 @@ use mathlib.Core.Path.{_≡_, refl, sym, _∙_, ap, ap₂, subst}
 use mathlib.Core.Logic.{_≢_}
 use mathlib.Core.Bool.{cond}
 use mathlib.Core.List.{List, []}
-use Prim.Native.Nat.{ℕ, _+_, _-_, _*_, _/_, _%_, _≤_, _<_}
+use Prim.Native.Nat.{ℕ, _-_, _*_, _/_, _%_, _≤_, _<_}
 use native.Mathlib.Omega.{arith}
-use lib.ListN.{length, take, drop, set}
+use lib.ListN.{length, set}
 use Rattle.rules.specs.Line.{Line, lineOf, offsetOf, valueAt}
 use Rattle.rules.specs.Call.{Answer, refused}
 use Rattle.rules.specs.Call.Place.{in-archive}
@@ -22,8 +22,8 @@ use Rattle.rules.specs.Promise.{Promise, Followed, seenOf, settingsFor}
 use Rattle.rules.proofs.Chain.{Placed, place-passed}
 use Rattle.rules.proofs.Width.{line-below}
 use Rattle.rules.proofs.WellCache.{use-well}
-use Rattle.frames.specs.Lines.{lineAt}
-use Rattle.frames.specs.declared.Found.{Found}
+use Rattle.pages.specs.Lines.{pageLine, archiveLine, AsksPage, AsksArchive}
+use Rattle.numbers.specs.declared.Found.{Found}
 use Rattle.written.specs.Bits.{newestFrom}
 use Rattle.cache.specs.declared.Cache.{Cache}
 use Rattle.cache.specs.declared.Entry.{Entry}
@@ -41,6 +41,7 @@ use Rattle.versions.proofs.Finding.{spot-below, latest-hit, latest-miss}
 use Rattle.storage.specs.declared.State.{State}
 use Rattle.storage.specs.Storage.{Storage, stateOf, settingsIn, registersIn, lengthsIn, liveIn, writtenIn, frameIn, archiveIn, versionAt, latestIn, newestFrame, Recent, WellStore, store}
 use Rattle.storage.specs.Steps.{givenRegisters, usedState, readState}
+use Rattle.storage.specs.Contracts.{Reads}
 use Rattle.storage.proofs.Chains.{admitted-rest, line-room}
 use Rattle.storage.proofs.Looking.{admittedIn, turned-down, let-through}
 use Rattle.storage.proofs.Numbers.{used-number}
@@ -101,9 +102,9 @@ module _ (x : Storage) (w a : ℕ) where
       }
 
   module _ (r : ℕ) (told : r ≡ admittedIn x (placeRefusal (settingsIn (x .state)) w a 0)) where
-    pub read-refused : r ≢ 0 → Promise store (ON (READ w a)) x (reading r 0 (from in-archive)) x
+    pub read-refused : r ≢ 0 → Reads x w a r 0 (from in-archive) x
     unfolding refusal actRefusal factsBy refused
-    read-refused z = turned-down x (ON (READ w a)) r told z
+    read-refused z = (turned-down x (ON (READ w a)) r told z, λ e. absurd (z e))
 
     module _ (z : r ≡ 0) where
       pub place-known : Placed (settingsIn (x .state)) w a
@@ -167,11 +168,8 @@ module _ (x : Storage) (w a : ℕ) where
               used-done (x .state) (x .state .registers .used) l (frameOf c e) content _
               (hit-placed c l e (sym f-is ∙ at-entry) last last-is ∙ ap (placed c l (frameOf c e)) (sym content-is))
 
-          pub hit-told : Promise store (ON (READ w a)) x (reading 0 value (originOf origin.Cache)) (record { state = after; memory = x .memory })
-          hit-told = read-told live live-is held held-is value valued after after-is
-
-          pub hit-state : WellStore x → after ≡ readState x l
-          hit-state = read-state live live-is held held-is value valued after after-is
+          pub read-hits : Reads x w a 0 value (originOf origin.Cache) (record { state = after; memory = x .memory })
+          read-hits = (read-told live live-is held held-is value valued after after-is, λ e. (refl, read-state live live-is held held-is value valued after after-is))
 
         -- or the newest version, which the cache takes in.
         module _ (missed : f ≡ Miss) (v : Version)
@@ -185,11 +183,11 @@ module _ (x : Storage) (w a : ℕ) where
           loaded-is : stateOf (x .state .registers) k ≡ usedState (x .state) (x .state .registers .used) (placed c l (v .frame) (v .content))
           loaded-is = used-done (x .state) (x .state .registers .used) l (v .frame) (v .content) k k-is
 
-          pub miss-told : Promise store (ON (READ w a)) x (reading 0 value (originOf (v .origin))) (record { state = stateOf (x .state .registers) k; memory = x .memory })
-          miss-told = read-told live live-is v found-is value valued (stateOf (x .state .registers) k) loaded-is
+          abbrev loaded : State
+          loaded = stateOf (x .state .registers) k
 
-          pub miss-state : WellStore x → stateOf (x .state .registers) k ≡ readState x l
-          miss-state = read-state live live-is v found-is value valued (stateOf (x .state .registers) k) loaded-is
+          pub read-misses : Reads x w a 0 value (originOf (v .origin)) (record { state = loaded; memory = x .memory })
+          read-misses = (read-told live live-is v found-is value valued loaded loaded-is, λ e. (refl, read-state live live-is v found-is value valued loaded loaded-is))
 
 -- LINE lends the bytes where they stand.
 module _ (x : Storage) (l r : ℕ) (told : r ≡ admittedIn x (lineRefusal (settingsIn (x .state)) l)) where
@@ -207,23 +205,20 @@ module _ (x : Storage) (l r : ℕ) (told : r ≡ admittedIn x (lineRefusal (sett
     unfolding refusal actRefusal factsBy refused
     told-so bytes e = let-through x (ON (LOOK (LINE l))) r told z refl (record { kept = refl; answer = content-is bytes e }) refl refl
 
-    -- a part of the pool or of the archive, by its two ends
-    whole : (at : ℕ) (xs : List ℕ) → take (at + 16 - at) (drop at xs) ≡ lineAt xs at
-    unfolding lineAt
-    whole at xs =
-        let n : at + 16 - at ≡ 16 = omega arith in
-        ap (λ (k : ℕ). take k (drop at xs)) n
-
-    pub line-in-page : (p : ℕ) → spot ≡ Page p
-        → Promise store (ON (LOOK (LINE l))) x (lending (take (128 * p + 16 * (l % 8) + 16 - (128 * p + 16 * (l % 8))) (drop (128 * p + 16 * (l % 8)) (x .memory .pool)))) x
+    pub line-in-page : (p : ℕ) (bytes : List ℕ) → spot ≡ Page p → bytes ≡ pageLine (x .memory .pool) p (l % 8) → Promise store (ON (LOOK (LINE l))) x (lending bytes) x
     unfolding contentOf
-    line-in-page p e = told-so _ (whole (128 * p + 16 * (l % 8)) (x .memory .pool) ∙ sym (ap (contentOf (x .memory .archive) (x .memory .pool) l) e))
+    line-in-page p bytes e d = told-so bytes (d ∙ sym (ap (contentOf (x .memory .archive) (x .memory .pool) l) e))
 
-    pub line-in-archive : spot ≡ Archive → Promise store (ON (LOOK (LINE l))) x (lending (take (16 * l + 16 - 16 * l) (drop (16 * l) (x .memory .archive)))) x
+    pub line-in-archive : (bytes : List ℕ) → spot ≡ Archive → bytes ≡ archiveLine (x .memory .archive) l → Promise store (ON (LOOK (LINE l))) x (lending bytes) x
     unfolding contentOf
-    line-in-archive e = told-so _ (whole (16 * l) (x .memory .archive) ∙ sym (ap (contentOf (x .memory .archive) (x .memory .pool) l) e))
+    line-in-archive bytes e d = told-so bytes (d ∙ sym (ap (contentOf (x .memory .archive) (x .memory .pool) l) e))
 
--- The ends of the part.
-pub page-end : (lines frames omf pages : ℕ) (table : List ℕ) (l : ℕ) (found : Found) (spot : Spot) (p n : ℕ) → spot ≡ spotOf lines frames omf pages table l found
-    → spot ≡ Page p → 128 * pages ≤ n → 128 * p + 16 * (l % 8) + 16 ≤ n
-page-end lines frames omf pages table l found spot p n e d long = omega (arith, spot-below lines frames omf pages table l found p (sym e ∙ d))
+-- What is asked of the page, and of the archive.
+pub page-asks : (lines frames omf pages : ℕ) (table : List ℕ) (l : ℕ) (found : Found) (spot : Spot) (p n : ℕ) → spot ≡ spotOf lines frames omf pages table l found
+    → spot ≡ Page p → pages ≤ 4096 → 128 * pages ≤ n → AsksPage p (l % 8) n
+page-asks lines frames omf pages table l found spot p n e d few long =
+    let b = spot-below lines frames omf pages table l found p (sym e ∙ d) in
+    record { page-few = omega arith; slot-below = omega arith; room = omega arith }
+
+pub archive-asks : (lines l n : ℕ) → lines % 8 ≡ 0 → lines ≤ 4096 → l < lines → 16 * lines ≤ n → AsksArchive l n
+archive-asks lines l n by few b long = record { line-few = omega arith; room = omega arith }

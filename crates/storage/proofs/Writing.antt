@@ -27,19 +27,19 @@ use Rattle.rules.proofs.WellCache.{use-well}
 use lib.Arith.{digits-div, digits-mod}
 use Rattle.frames.specs.Circle.{indexOf, frameAt}
 use Rattle.frames.proofs.Circle.{frame-below, index-frame}
-use Rattle.frames.proofs.Lines.{length-written, read-own}
+use Rattle.lists.proofs.Lines.{length-written, read-own}
 use Rattle.written.specs.Bits.{Written, Asks, effective}
 use Rattle.written.specs.Steps.{withWritten}
 use Rattle.written.proofs.Setting.{set-effective}
 use Rattle.written.proofs.Keeping.{set-keeps}
 use Rattle.pages.specs.Lines.{pageLine, withPageLine}
-use Rattle.pages.specs.Table.{neededAt, placeAt, entryOf}
+use Rattle.pages.specs.Table.{neededAt, placeAt, entryOf, entryAt}
 use Rattle.pages.proofs.Places.{page-other}
 use Rattle.pages.proofs.Needs.{effective-needed}
 use Rattle.cache.specs.Steps.{placed}
 use Rattle.cache.specs.Shown.{shown}
 use Rattle.cache.proofs.Uses.{placed-sized, placed-shown, placed-all}
-use Rattle.versions.specs.Newest.{entryAt, pageOf}
+use Rattle.versions.specs.Newest.{pageOf}
 use Rattle.versions.proofs.Finding.{entry-within, place-entry}
 use Rattle.storage.specs.Storage.{Storage, storageOf, settingsIn, lengthsIn, liveIn, writtenIn, versionAt, frameIn, archiveIn, latestIn, frameNumber, newestFrame, Recent, Coherent, WellStore, store}
 use Rattle.storage.specs.Steps.{usedState, currentFrame}
@@ -119,7 +119,7 @@ module _ (x : Storage) (q : WellStore x) (wd a v : ℕ) (p : Placed (settingsIn 
     spot i m = placeAt (frameAt (x .state .registers .frames) (x .state .registers .omf) i) (m / 8)
 
     abbrev spot-entry : (index line : ℕ) → ℕ
-    spot-entry i m = entryAt (x .state .registers .lines) (frameAt (x .state .registers .frames) (x .state .registers .omf) i) m
+    spot-entry i m = entryAt (x .state .registers .lines) (frameAt (x .state .registers .frames) (x .state .registers .omf) i) (m / 8)
 
     in-block : (m : ℕ) → m < x .state .registers .lines → m / 8 < x .state .registers .lines / 8
     in-block m d = omega (arith, asks-table x q l b .lines-by)

@@ -9,9 +9,9 @@ use Rattle.frames.specs.Circle.{frameAt}
 use Rattle.written.specs.Bits.{writtenOf}
 use Rattle.written.specs.Steps.{RolledBack, withWritten, blanked, lowered}
 use Rattle.pages.specs.Lines.{withPageLine, AsksBytes}
-use Rattle.pages.specs.Table.{placeAt, neededAt}
-use Rattle.pages.specs.Ring.{pageAt, indexAt, Leading, Leads}
-use Rattle.versions.specs.Newest.{entryAt, latestOf, AsksNewest}
+use Rattle.pages.specs.Table.{placeAt, neededAt, entryAt}
+use Rattle.pages.specs.Ring.{nthPage, indexAt, Leading, Leads}
+use Rattle.versions.specs.Newest.{latestOf, AsksNewest}
 use Rattle.versions.specs.Steps.{zeroed, foldedPages, clearedPages, AsksPut}
 use Rattle.cache.specs.declared.Cache.{Cache}
 use Rattle.cache.specs.Steps.{emptied, placed, forgotten, collected}
@@ -76,7 +76,7 @@ FirstPages r owners k n = Leads (ringAt r .used) (indexAt (r .frames) (r .omf) (
 -- The ring starts behind the pages that are free.
 abbrev pub advancedRegisters : Registers → (k gone : ℕ) → Registers
 advancedRegisters r k gone =
-    registersWith r (r .cmf) ((r .omf + k) % r .frames) (r .tag) (pageAt (r .pages) (ringAt r .first) gone) (ringAt r .used - gone)
+    registersWith r (r .cmf) ((r .omf + k) % r .frames) (r .tag) (nthPage (r .pages) (ringAt r .first) gone) (ringAt r .used - gone)
 
 unfoldable pub advancedState : State → (k gone : ℕ) → State
 advancedState s k gone =
@@ -122,14 +122,14 @@ abbrev pub currentPlace : Storage → (line : ℕ) → ℕ
 currentPlace x l = placeAt (currentFrame x) (l / 8)
 
 abbrev pub currentEntry : Storage → (line : ℕ) → ℕ
-currentEntry x l = entryAt (x .state .registers .lines) (currentFrame x) l
+currentEntry x l = entryAt (x .state .registers .lines) (currentFrame x) (l / 8)
 
 -- The page that the line goes to, and how many are in use then: the place's own where it is needed already, and else the one behind the
 -- segment.
 unfoldable pub pageTaken : Storage → (line : ℕ) → ℕ
 pageTaken x l =
     cond (neededAt (writtenIn x) (currentPlace x l)) (getD (x .memory .table) (currentEntry x l) 0)
-    (pageAt (x .state .registers .pages) (x .state .registers .first) (x .state .registers .used))
+    (nthPage (x .state .registers .pages) (x .state .registers .first) (x .state .registers .used))
 
 unfoldable pub usedAfter : Storage → (line : ℕ) → ℕ
 usedAfter x l = cond (neededAt (writtenIn x) (currentPlace x l)) (x .state .registers .used) (x .state .registers .used + 1)
@@ -160,7 +160,7 @@ pub record Put (x : Storage) (width address value live page : ℕ) (cache : Cach
       memory
       ≡ memoryOf (x .memory .archive) (withPageLine (x .memory .pool) page (lineOf address % 8) content)
       (withWritten (writtenIn x) (x .state .registers .tag % 256) (lineOf address) (live - 1))
-      (set (x .memory .table) (entryAt (x .state .registers .lines) (frameAt (x .state .registers .frames) (x .state .registers .omf) (live - 1)) (lineOf address)) page)
+      (set (x .memory .table) (entryAt (x .state .registers .lines) (frameAt (x .state .registers .frames) (x .state .registers .omf) (live - 1)) ((lineOf address) / 8)) page)
       (set (x .memory .owners) page (placeAt (frameAt (x .state .registers .frames) (x .state .registers .omf) (live - 1)) (lineOf address / 8))) (x .memory .history)
 
 -- What is asked for that: once WRITE is admitted and has its page.

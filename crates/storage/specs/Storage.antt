@@ -16,7 +16,8 @@ use Rattle.rules.specs.Figure2.{versionIn, foundIn, isWritten}
 use Rattle.rules.specs.Figure3.{WellCache}
 use Rattle.rules.specs.Promise.{Kind}
 use Rattle.frames.specs.Circle.{frameAt}
-use Rattle.written.specs.Bits.{Written, writtenOf, effective}
+use Rattle.written.specs.declared.Shape.{Shape}
+use Rattle.written.specs.Bits.{Written, writtenAt, effective}
 use Rattle.written.specs.Well.{WellBits}
 use Rattle.pages.specs.Lines.{pageLine, archiveLine}
 use Rattle.pages.specs.declared.Ring.{Ring}
@@ -75,17 +76,19 @@ liveAt r = liveFrames (registersOf r)
 abbrev pub liveIn : State → ℕ
 liveIn s = liveAt (s .registers)
 
--- The written bits and the rollback history, with what places them.
+-- What places the lent lists, and the written bits and the rollback history with it.
+abbrev pub shapeAt : Registers → Shape
+shapeAt r = record { lines = r .lines; frames = r .frames; omf = r .omf }
+
 abbrev pub writtenIn : Storage → Written
-writtenIn x = writtenOf (x .state .registers .lines) (x .state .registers .frames) (x .state .registers .omf) (x .memory .groups) (x .memory .history)
+writtenIn x = writtenAt (shapeAt (x .state .registers)) (x .memory .groups) (x .memory .history)
 
 -- The ring of pages that the calls but CHECK see: a start past the pool counts as 0, and more pages than there are count as all.
 unfoldable pub startIn : (first pages : ℕ) → ℕ
 startIn first pages = cond (ltb first pages) first 0
 
 abbrev pub ringAt : Registers → Ring
-ringAt r =
-    record { lines = r .lines; frames = r .frames; omf = r .omf; pages = r .pages; first = startIn (r .first) (r .pages); used = min (r .used) (r .pages) }
+ringAt r = record { shape = shapeAt r; pages = r .pages; first = startIn (r .first) (r .pages); used = min (r .used) (r .pages) }
 
 -- The lent lengths, in elements.
 abbrev pub lengthsIn : Memory → Pieces

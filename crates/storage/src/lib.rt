@@ -2,14 +2,16 @@
 use cache::Cache;
 use pages::Ring;
 use rules::Need;
+use written::Shape;
 ghost use mathlib.Core.Path.{_≡_};
 ghost use mathlib.Core.Bool.{true};
 ghost use Prim.Native.Nat.{_^_};
 ghost use lib.Dec.{ltb};
+ghost use Rattle.rules.specs.Settings.{covers};
 ghost use Rattle.rules.specs.Sizing.{settingsOf};
 ghost use Rattle.rules.specs.Refusal.{unless, isWidth, askedRefusal, lineRefusal, markedRefusal, placeRefusal, writeRefusal};
-ghost use Rattle.storage.specs.Storage.{settingsAt, registersOf, liveAt, memoryOf, lengthsIn, startIn, ringAt};
-ghost use Rattle.storage.specs.Admit.{piecesOf, inElements, covers, admitted};
+ghost use Rattle.storage.specs.Storage.{settingsAt, registersOf, liveAt, memoryOf, lengthsIn, startIn, shapeAt, ringAt};
+ghost use Rattle.storage.specs.Admit.{piecesOf, inElements, admitted, Room, LineRoom, PlaceRoom, FramesRoom, Admits};
 
 // The settings L, F and P, the registers CMF and OMF, the tag that a write gives, and of the ring of pages its first one and how many are
 // needed from there on.
@@ -85,17 +87,26 @@ fn start(first: u32, pages: u32) -> u32
     if first < pages { first } else { 0 }
 }
 
+// What places the lent lists.
+pub fn shape(registers: Registers) -> Shape
+    ensures { λ r. ⌜ r ≡ shapeAt registers ⌝ }
+{
+    Shape {
+        lines: registers.lines,
+        frames: registers.frames,
+        omf: registers.omf,
+    }
+}
+
 // The ring that the calls but CHECK see; more pages than there are count as all.
 pub fn ring(registers: Registers) -> Ring
     ensures { λ r. ⌜ r ≡ ringAt registers ⌝ }
 {
     Ring {
-        lines: registers.lines,
-        frames: registers.frames,
-        omf: registers.omf,
+        shape: shape(registers),
         pages: registers.pages,
         first: start(registers.first, registers.pages),
-        used: frames::least(registers.used, registers.pages),
+        used: numbers::min(registers.used, registers.pages),
     }
 }
 
@@ -140,7 +151,7 @@ pub fn asked_refusal(lines: u32, frames: u32, pages: u32, lengths: Lengths) -> u
 
 // 5 and 6, which every call but RESET tests first.
 pub fn admit(registers: Registers, lengths: Lengths) -> u32
-    ensures { λ r. ⌜ r ≡ admitted (registersOf registers) (piecesOf lengths) 0 ⌝ }
+    ensures { λ r. ⌜ Admits r (admitted (registersOf registers) (piecesOf lengths) 0) (Room (registersOf registers) (piecesOf lengths)) ⌝ }
 {
     if registers.frames <= registers.cmf {
         return 5;
@@ -157,7 +168,7 @@ pub fn admit(registers: Registers, lengths: Lengths) -> u32
 
 // 5, 6 and 9: the tests of LINE and its companion.
 pub fn admit_line(registers: Registers, lengths: Lengths, line: u32) -> u32
-    ensures { λ r. ⌜ r ≡ admitted (registersOf registers) (piecesOf lengths) (lineRefusal (settingsAt registers) line) ⌝ }
+    ensures { λ r. ⌜ Admits r (admitted (registersOf registers) (piecesOf lengths) (lineRefusal (settingsAt registers) line)) (LineRoom (registersOf registers) (piecesOf lengths) line) ⌝ }
 {
     let refusal = admit(registers, lengths);
     if refusal != 0 {
@@ -171,13 +182,13 @@ pub fn admit_line(registers: Registers, lengths: Lengths, line: u32) -> u32
 
 // 5, 6 and 12: the tests of MARK.
 pub fn admit_mark(registers: Registers, lengths: Lengths) -> u32
-    ensures { λ r. ⌜ r ≡ admitted (registersOf registers) (piecesOf lengths) (unless (ltb (liveAt registers) (registers .frames)) 12 0) ⌝ }
+    ensures { λ r. ⌜ Admits r (admitted (registersOf registers) (piecesOf lengths) (unless (ltb (liveAt registers) (registers .frames)) 12 0)) (Room (registersOf registers) (piecesOf lengths)) ⌝ }
 {
     let refusal = admit(registers, lengths);
     if refusal != 0 {
         return refusal;
     }
-    if registers.frames <= frames::live(registers.cmf, registers.omf, registers.frames) {
+    if registers.frames <= frames::live(registers.frames, registers.omf, registers.cmf) {
         return 12;
     }
     0
@@ -185,7 +196,7 @@ pub fn admit_mark(registers: Registers, lengths: Lengths) -> u32
 
 // 5, 6 and 11: the tests of ROLLBACK and ADVANCE.
 pub fn admit_frames(registers: Registers, lengths: Lengths, k: u32) -> u32
-    ensures { λ r. ⌜ r ≡ admitted (registersOf registers) (piecesOf lengths) (markedRefusal (liveAt registers) k) ⌝ }
+    ensures { λ r. ⌜ Admits r (admitted (registersOf registers) (piecesOf lengths) (markedRefusal (liveAt registers) k)) (FramesRoom (registersOf registers) (piecesOf lengths) k) ⌝ }
 {
     let refusal = admit(registers, lengths);
     if refusal != 0 {
@@ -194,7 +205,7 @@ pub fn admit_frames(registers: Registers, lengths: Lengths, k: u32) -> u32
     if k == 0 {
         return 11;
     }
-    if k < frames::live(registers.cmf, registers.omf, registers.frames) {
+    if k < frames::live(registers.frames, registers.omf, registers.cmf) {
         return 0;
     }
     11
@@ -218,7 +229,7 @@ fn is_width(width: u32) -> bool
 
 // 5 to 9: the tests of READ. The address may be any number: nothing is added to it.
 pub fn admit_place(registers: Registers, lengths: Lengths, width: u32, address: u32) -> u32
-    ensures { λ r. ⌜ r ≡ admitted (registersOf registers) (piecesOf lengths) (placeRefusal (settingsAt registers) width address 0) ⌝ }
+    ensures { λ r. ⌜ Admits r (admitted (registersOf registers) (piecesOf lengths) (placeRefusal (settingsAt registers) width address 0)) (PlaceRoom (registersOf registers) (piecesOf lengths) width address) ⌝ }
 {
     let refusal = admit(registers, lengths);
     if refusal != 0 {
@@ -264,7 +275,7 @@ pub fn admit_write(
     address: u32,
     value: u32,
 ) -> u32
-    ensures { λ r. ⌜ r ≡ admitted (registersOf registers) (piecesOf lengths) (writeRefusal (settingsAt registers) width address value 0) ⌝ }
+    ensures { λ r. ⌜ Admits r (admitted (registersOf registers) (piecesOf lengths) (writeRefusal (settingsAt registers) width address value 0)) (PlaceRoom (registersOf registers) (piecesOf lengths) width address) ⌝ }
 {
     let refusal = admit_place(registers, lengths, width, address);
     if refusal != 0 {

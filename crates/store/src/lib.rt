@@ -10,6 +10,7 @@ pub use storage::Registers;
 pub use storage::State;
 pub use storage::Step;
 pub use versions::Origin;
+use written::Shape;
 ghost use mathlib.Core.Path.{_≡_};
 ghost use Rattle.rules.specs.Call.Answer.{outcome, lending, counting, verdict};
 ghost use Rattle.rules.specs.Call.Look.{LINE, LINE-REFUSAL, COUNTS};
@@ -88,7 +89,12 @@ pub fn reset(
         return Outcome { state, refusal };
     }
     versions::zero(archive, lines);
-    written::reset(groups, history, lines, frames);
+    let shape = Shape {
+        lines,
+        frames,
+        omf: 0,
+    };
+    written::reset(groups, history, shape);
     Outcome {
         state: fresh(lines, frames, pages),
         refusal: 0,
@@ -419,22 +425,13 @@ fn is_well(
     let frames = state.registers.frames;
     let omf = state.registers.omf;
     let pages = state.registers.pages;
-    let live = frames::live(state.registers.cmf, omf, frames);
-    if !wellformed::bits(
-        groups,
-        history,
-        lines,
-        frames,
-        omf,
-        state.registers.tag,
-        live,
-    ) {
+    let live = frames::live(frames, omf, state.registers.cmf);
+    let shape = Shape { lines, frames, omf };
+    if !wellformed::bits(groups, history, shape, state.registers.tag, live) {
         return false;
     }
     let ring = Ring {
-        lines,
-        frames,
-        omf,
+        shape,
         pages,
         first: state.registers.first,
         used: state.registers.used,
@@ -454,9 +451,7 @@ fn is_well(
         groups,
         table,
         history,
-        lines,
-        frames,
-        omf,
+        shape,
         pages,
         live,
     )

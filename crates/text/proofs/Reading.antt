@@ -5,18 +5,15 @@ use mathlib.Core.Bool.{Bool, true, false, not, cond, _&&_, and-false, false≢tr
 use mathlib.Core.List.{_∷_}
 use Prim.Native.Nat.{ℕ, suc, _+_, _-_, _*_, _^_, _≤_, _<_}
 use native.Mathlib.Nat.{pow-suc, pow-le-pow-right}
+use native.Mathlib.Decide.{decLt}
 use native.Mathlib.Omega.{arith}
-use borrow.Author.Tests.{not-true, not-false, leb-true, le-leb, lt-leb}
+use borrow.Author.Tests.{not-true, not-false, le-leb, lt-leb}
 use lib.Dec.{leb}
 use lib.ListN.{length, getD, drop, drop-of-length-le}
 use lib.Seq.{drop-cons}
 use Rattle.text.specs.Parts.{Text}
 use Rattle.text.specs.declared.Number.the-variants.{Is, Not}
 use Rattle.text.specs.Numbers.{isDigit, allDigits, valueOf, isNumber, fieldNumber}
-
-both-true : (a b : Bool) → (a && b) ≡ true → (a ≡ true) × (b ≡ true)
-both-true true b e = (refl, e)
-both-true false b e = absurd (false≢true e)
 
 -- A byte that is a digit.
 module _ (b : ℕ) where
@@ -33,10 +30,15 @@ module _ (b : ℕ) where
   digit-is h k = sym (ap₂ (λ (s t : Bool). s && t) (le-leb 48 b h) (le-leb b 57 k))
 
   pub digit-range : isDigit b ≡ true → (48 ≤ b) × (b ≤ 57)
-  unfolding isDigit
-  digit-range e =
-      let h = both-true (leb 48 b) (leb b 57) e in
-      (leb-true 48 b (h .0), leb-true b 57 (h .1))
+  digit-range e = (low (decLt b 48), high (decLt 57 b))
+    where
+      low : Dec (b < 48) → 48 ≤ b
+      low (yes h) = absurd (false≢true (digit-low h ∙ e))
+      low (no h) = omega (arith, h)
+
+      high : Dec (57 < b) → b ≤ 57
+      high (yes h) = absurd (false≢true (digit-high h ∙ e))
+      high (no h) = omega (arith, h)
 
 -- The value of the first i digits, continued from there, is the value of them all.
 pub record Reading (field : Text) (i value : ℕ) : Type 0 where

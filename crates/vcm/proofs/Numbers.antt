@@ -8,7 +8,7 @@ use native.Mathlib.Omega.{arith}
 use borrow.Author.Tests.{eq-eqb, ne-eqb}
 use lib.ListN.{length}
 use lib.Seq.{take-all}
-use Rattle.frames.specs.Lines.{lineAt}
+use Rattle.lists.specs.Lines.{lineAt}
 use Rattle.vcm.specs.Numbers.{copied}
 
 -- A part of 16 bytes is one line, whole.

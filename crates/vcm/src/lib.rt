@@ -88,7 +88,7 @@ fn copy_line(part: &[u8], bytes: &mut [u8; 16])
     if part.len() != 16 {
         return;
     }
-    let line = pages::lines::read_line(part, 0);
+    let line = lists::read_line(part, 0);
     *bytes = line;
 }
 

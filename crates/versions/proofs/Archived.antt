@@ -11,13 +11,13 @@ use lib.Dec.{ltb, eqb}
 use lib.ListN.{length, getD, drop, length-drop}
 use lib.Seq.{length-take-le}
 use Rattle.rules.specs.Line.{Line}
-use Rattle.frames.specs.Lines.{lineAt}
-use Rattle.frames.proofs.Lines.{length-written, read-own, past-written}
+use Rattle.lists.specs.Lines.{lineAt}
+use Rattle.lists.proofs.Lines.{length-written, read-own, past-written}
 use Rattle.frames.proofs.Circle.{frame-below}
 use Rattle.written.specs.Bits.{Written, effective}
 use Rattle.pages.specs.Lines.{pageLine, archiveLine, withArchiveLine}
 use Rattle.pages.specs.Table.{blocksOf}
-use Rattle.pages.specs.Ring.{pageAt, ownerIndex}
+use Rattle.pages.specs.Ring.{nthPage, ownerIndex}
 use Rattle.pages.proofs.Places.{archive-other}
 use Rattle.versions.specs.Steps.{foldedLine, foldedLines, foldedPage, foldedPages}
 
@@ -145,7 +145,7 @@ walk archive page hit (suc n) = cond (hit n) (page n) (walk archive page hit n)
 
 module _ (w : Written) (pages first : ℕ) (owners : List ℕ) where
   abbrev owner : ℕ → ℕ
-  owner i = getD owners (pageAt pages first i) 0
+  owner i = getD owners (nthPage pages first i) 0
 
   -- whether the page at a position has a line
   abbrev pub hit : (line i : ℕ) → Bool
@@ -154,7 +154,7 @@ module _ (w : Written) (pages first : ℕ) (owners : List ℕ) where
   pub record PagesFolded (pool : List ℕ) (n : ℕ) (archive after : List ℕ) : Type 0 where
     pub long : length after ≡ length archive
     pub past : drop (16 * w .lines) after ≡ drop (16 * w .lines) archive
-    pub line : (l : ℕ) → l < w .lines → archiveLine after l ≡ walk (archiveLine archive l) (λ i. pageLine pool (pageAt pages first i) (l % 8)) (hit l) n
+    pub line : (l : ℕ) → l < w .lines → archiveLine after l ≡ walk (archiveLine archive l) (λ i. pageLine pool (nthPage pages first i) (l % 8)) (hit l) n
 
   pub pages-folded : (pool : List ℕ) (n : ℕ) (archive : List ℕ) → w .lines % 8 ≡ 0 → 16 * w .lines ≤ length archive → first < pages → 128 * pages ≤ length pool
       → PagesFolded pool n archive (foldedPages w pages first pool owners n archive)
@@ -162,11 +162,11 @@ module _ (w : Written) (pages first : ℕ) (owners : List ℕ) where
   pages-folded pool zero archive by inside start room = record { long = refl; past = refl; line = λ l b. refl }
   pages-folded pool (suc n) archive by inside start room = next (foldedPages w pages first pool owners n archive) (pages-folded pool n archive by inside start room)
     where
-      next : (now : List ℕ) → PagesFolded pool n archive now → PagesFolded pool (suc n) archive (foldedPage w pool (pageAt pages first n) (ownerIndex (w .frames) (w .omf) (owner n)) (owner n % 512) now)
+      next : (now : List ℕ) → PagesFolded pool n archive now → PagesFolded pool (suc n) archive (foldedPage w pool (nthPage pages first n) (ownerIndex (w .frames) (w .omf) (owner n)) (owner n % 512) now)
       next now h =
-          let s = page-folded w pool (pageAt pages first n) (ownerIndex (w .frames) (w .omf) (owner n)) (omega (arith, frame-below pages first start n)) (owner n % 512) now by (omega (arith, h .long)) in
+          let s = page-folded w pool (nthPage pages first n) (ownerIndex (w .frames) (w .omf) (owner n)) (omega (arith, frame-below pages first start n)) (owner n % 512) now by (omega (arith, h .long)) in
           record {
             long = s .long ∙ h .long;
             past = s .past ∙ h .past;
-            line = λ l b. s .line l b ∙ ap (λ (x : Line). cond (hit l n) (pageLine pool (pageAt pages first n) (l % 8)) x) (h .line l b);
+            line = λ l b. s .line l b ∙ ap (λ (x : Line). cond (hit l n) (pageLine pool (nthPage pages first n) (l % 8)) x) (h .line l b);
           }

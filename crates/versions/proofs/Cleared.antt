@@ -11,7 +11,7 @@ use borrow.Author.Tests.{lt-ltb, le-ltb}
 use lib.Dec.{ltb}
 use lib.ListN.{length, getD, drop}
 use Rattle.frames.specs.Circle.{frameAt}
-use Rattle.frames.specs.Digits.{bit}
+use Rattle.numbers.specs.Digits.{bit}
 use Rattle.frames.proofs.Circle.{index-frame}
 use Rattle.written.specs.Bits.{Written, Lent, placeOf, tagOf, effective}
 use Rattle.written.specs.Steps.{clearedBlock}
@@ -19,7 +19,7 @@ use Rattle.written.proofs.Areas.{place-below, area-below}
 use Rattle.written.proofs.Unsetting.{block-cleared}
 use Rattle.written.proofs.Advancing.{groupOf, Collected}
 use Rattle.pages.specs.Table.{placeAt}
-use Rattle.pages.specs.Ring.{pageAt, indexAt, Splits, WellRing}
+use Rattle.pages.specs.Ring.{nthPage, indexAt, Splits, WellRing}
 use Rattle.pages.proofs.Keeping.{owner-index}
 use Rattle.versions.specs.Steps.{clearedPage, clearedPages}
 use Rattle.versions.proofs.Folding.{index-frame-few}
@@ -70,7 +70,7 @@ module _ (w : Written) (by : w .lines % 8 ≡ 0) (frames-by : w .frames % 16 ≡
   -- The ring's first pages.
   module _ (pages first : ℕ) (owners : List ℕ) where
     abbrev owner : ℕ → ℕ
-    owner i = getD owners (pageAt pages first i) 0
+    owner i = getD owners (nthPage pages first i) 0
 
     pub record PagesCleared (n : ℕ) (groups after : List ℕ) : Type 0 where
       pub long : length after ≡ length groups
@@ -119,21 +119,21 @@ module _ (w : Written) (lent : Lent w) (pages first used gone k : ℕ) (below : 
   abbrev after : List ℕ
   after = clearedPages (w .lines) pages first owners gone (w .groups)
 
-  frame-few : (i : ℕ) → i < gone → getD owners (pageAt pages first i) 0 / 512 < w .frames
+  frame-few : (i : ℕ) → i < gone → getD owners (nthPage pages first i) 0 / 512 < w .frames
   unfolding indexAt
-  frame-few i b = index-frame-few (w .frames) (w .omf) (getD owners (pageAt pages first i) 0) k (parts .low i b) below
+  frame-few i b = index-frame-few (w .frames) (w .omf) (getD owners (nthPage pages first i) 0) k (parts .low i b) below
 
   abbrev bits : PagesCleared w by (lent .frames-by) pages first owners gone (w .groups) after
   bits = pages-cleared w by (lent .frames-by) pages first owners gone (w .groups) frame-few (lent .groups-long)
 
   -- a kept frame owns no collected page
-  kept-apart : (j : ℕ) → k ≤ j → j < w .frames → (i : ℕ) → i < gone → frameAt (w .frames) (w .omf) j ≢ getD owners (pageAt pages first i) 0 / 512
+  kept-apart : (j : ℕ) → k ≤ j → j < w .frames → (i : ℕ) → i < gone → frameAt (w .frames) (w .omf) j ≢ getD owners (nthPage pages first i) 0 / 512
   unfolding indexAt
   kept-apart j a b i c e =
       omega (
         arith,
         parts .low i c,
-        owner-index (w .frames) (w .omf) (getD owners (pageAt pages first i) 0) (frame-few i c),
+        owner-index (w .frames) (w .omf) (getD owners (nthPage pages first i) 0) (frame-few i c),
         ap (Rattle.frames.specs.Circle.indexOf (w .frames) (w .omf)) e,
         index-frame (w .frames) (w .omf) (lent .omf-below) j b,
       )
@@ -146,12 +146,12 @@ module _ (w : Written) (lent : Lent w) (pages first used gone k : ℕ) (below : 
       go false d = refl
       go true d =
           let h = has-all w lent pages first used gone k below table owners r parts by m c i b d in
-          let own : getD owners (pageAt pages first (h .0)) 0 ≡ placeAt (frameAt (w .frames) (w .omf) i) (m / 8) =
+          let own : getD owners (nthPage pages first (h .0)) 0 ≡ placeAt (frameAt (w .frames) (w .omf) i) (m / 8) =
           has-place w lent pages first used gone k below table owners r parts by m c (h .0) (omega (arith, h .1, parts .few)) (h .2)
           ∙ ap (λ (z : ℕ). placeAt (frameAt (w .frames) (w .omf) z) (m / 8)) (h .3)
           in
           let few : w .lines ≤ 4096 = lent .lines-few in
-          let f : getD owners (pageAt pages first (h .0)) 0 / 512 ≡ frameAt (w .frames) (w .omf) i = omega arith in
+          let f : getD owners (nthPage pages first (h .0)) 0 / 512 ≡ frameAt (w .frames) (w .omf) i = omega arith in
           absurd
           (false≢true
           (sym (bits .own (h .0) m (h .1) c (omega arith)) ∙ (ap (λ (z : ℕ). bit (groupOf w after z m) (z % 16)) f ∙ e)))

@@ -11,14 +11,14 @@ use lib.Dec.{ltb}
 use lib.ListN.{length, getD}
 use Rattle.rules.specs.Line.{Line}
 use Rattle.frames.specs.Circle.{Turn, frameAt}
-use Rattle.frames.specs.declared.Found.{Found}
-use Rattle.frames.specs.declared.Found.the-variants.{At, Nothing}
+use Rattle.numbers.specs.declared.Found.{Found}
+use Rattle.numbers.specs.declared.Found.the-variants.{At, Nothing}
 use Rattle.frames.proofs.Circle.{frame-below}
-use Rattle.frames.proofs.Search.{greatest-found}
+use Rattle.numbers.proofs.Search.{greatest-found}
 use Rattle.written.specs.Bits.{Written, effective, newestFrom}
 use Rattle.written.proofs.Areas.{place-below}
 use Rattle.pages.specs.Lines.{pageLine, archiveLine, AsksPage}
-use Rattle.pages.specs.Table.{blocksOf, placeAt, entryOf, AsksTable}
+use Rattle.pages.specs.Table.{blocksOf, placeAt, entryOf, AsksTable, entryAt, AsksEntry}
 use Rattle.pages.proofs.Needs.{place-frame, place-block}
 use Rattle.cache.specs.declared.Entry.{Entry}
 use Rattle.cache.specs.declared.Entry.the-variants.{Hit, Miss}
@@ -28,33 +28,28 @@ use Rattle.versions.specs.declared.Spot.the-variants.{Page, Archive}
 use Rattle.versions.specs.declared.Origin.{Origin}
 use Rattle.versions.specs.declared.Origin.the-variants as origin
 use Rattle.versions.specs.declared.Version.{Version}
-use Rattle.versions.specs.Newest.{entryAt, pageOf, spotOf, contentOf, numberOf, backIn, newestOf, latestFrom, latestHeld, AsksEntry, AsksSpot, AsksContent, AsksNewest}
+use Rattle.versions.specs.Newest.{pageOf, spotOf, contentOf, numberOf, backIn, newestOf, latestFrom, latestHeld, AsksSpot, AsksContent, AsksNewest}
 
 -- the place of a frame and line lies in the table
-pub entry-within : (lines frames frame line : ℕ) → lines % 8 ≡ 0 → frame < frames → line < lines → entryAt lines frame line < frames * (lines / 8)
+pub entry-within : (lines frames frame line : ℕ) → lines % 8 ≡ 0 → frame < frames → line < lines → entryAt lines frame (line / 8) < frames * (lines / 8)
 entry-within lines frames frame line by f l = place-below (lines / 8) frames frame (line / 8) f (omega arith)
 
 -- it is that of its place
-pub place-entry : (w : Written) (frame line : ℕ) → w .lines ≤ 4096 → line < w .lines → entryOf w (placeAt frame (line / 8)) ≡ entryAt (w .lines) frame line
+pub place-entry : (w : Written) (frame line : ℕ) → w .lines ≤ 4096 → line < w .lines → entryOf w (placeAt frame (line / 8)) ≡ entryAt (w .lines) frame (line / 8)
 place-entry w frame line few b =
     let wide : line / 8 < 512 = omega arith in
     ap₂ (λ (x y : ℕ). x * blocksOf w + y) (place-frame frame (line / 8) wide) (place-block frame (line / 8) wide)
 
 -- and what is asked to read it
 pub entry-asks : (lines frames frame line long : ℕ) → lines % 8 ≡ 0 → lines ≤ 4096 → frames ≤ 4096 → frame < frames → line < lines → frames * (lines / 8) ≤ long
-    → AsksEntry lines frame line long
+    → AsksEntry lines frame (line / 8) long
 entry-asks lines frames frame line long by few some f l room =
     record {
       lines-few = few;
       frame-few = omega arith;
-      line-few = omega arith;
+      block-few = omega arith;
       entry-below = omega (arith, entry-within lines frames frame line by f l);
     }
-
--- in the form in which `entry` has it
-pub entry-told : (table : List ℕ) (lines frame line place r : ℕ) → place ≡ entryAt lines frame line → (r ≡ getD table place 0) × (r < 65536)
-    → (r ≡ getD table (entryAt lines frame line) 0) × (r < 65536)
-entry-told table lines frame line place r e (h, b) = (h ∙ ap (λ (x : ℕ). getD table x 0) e, b)
 
 -- ---- a version that a search found
 -- lies no higher than the search started
@@ -79,7 +74,7 @@ module _ (lines frames omf line : ℕ) (r : Found) (long : ℕ) (asks : AsksSpot
   pub found-turn : r ≡ At i → Turn frames omf i
   found-turn e = record { omf-below = asks .omf-below; below = asks .index-below i e; few = omega (arith, asks .frames-few) }
 
-  pub found-entry : (f : ℕ) → f ≡ frameAt frames omf i → AsksEntry lines f line long
+  pub found-entry : (f : ℕ) → f ≡ frameAt frames omf i → AsksEntry lines f (line / 8) long
   found-entry f e =
       entry-asks lines frames f line long (asks .lines-by) (asks .lines-few) (asks .frames-few)
       (omega (arith, e, frame-below frames omf (asks .omf-below) i)) (asks .line-below) (asks .table-long)
@@ -92,18 +87,18 @@ no-spot : (pages n p : ℕ) → n ≡ p → pages ≤ n → Archive ≡ cond (lt
 no-spot pages n p e h = sym (ap (λ (b : Bool). cond b (Page p) Archive) (le-ltb p pages (omega arith)))
 
 module _ (lines frames omf pages : ℕ) (table : List ℕ) (line : ℕ) (r : Found) where
-  pub spot-page : (i f n : ℕ) → r ≡ At i → f ≡ frameAt frames omf i → (n ≡ getD table (entryAt lines f line) 0) × (n < 65536) → n < pages
+  pub spot-page : (i f n : ℕ) → r ≡ At i → f ≡ frameAt frames omf i → (n ≡ getD table (entryAt lines f (line / 8)) 0) × (n < 65536) → n < pages
       → Page n ≡ spotOf lines frames omf pages table line r
   unfolding spotOf pageOf
   spot-page i f n e h (p, small) b =
-      page-spot pages n (pageOf lines frames omf table i line) (p ∙ ap (λ (x : ℕ). getD table (entryAt lines x line) 0) h) b
+      page-spot pages n (pageOf lines frames omf table i line) (p ∙ ap (λ (x : ℕ). getD table (entryAt lines x (line / 8)) 0) h) b
       ∙ ap (spotOf lines frames omf pages table line) (sym e)
 
-  pub spot-none : (i f n : ℕ) → r ≡ At i → f ≡ frameAt frames omf i → (n ≡ getD table (entryAt lines f line) 0) × (n < 65536) → pages ≤ n
+  pub spot-none : (i f n : ℕ) → r ≡ At i → f ≡ frameAt frames omf i → (n ≡ getD table (entryAt lines f (line / 8)) 0) × (n < 65536) → pages ≤ n
       → Archive ≡ spotOf lines frames omf pages table line r
   unfolding spotOf pageOf
   spot-none i f n e h (p, small) b =
-      no-spot pages n (pageOf lines frames omf table i line) (p ∙ ap (λ (x : ℕ). getD table (entryAt lines x line) 0) h) b
+      no-spot pages n (pageOf lines frames omf table i line) (p ∙ ap (λ (x : ℕ). getD table (entryAt lines x (line / 8)) 0) h) b
       ∙ ap (spotOf lines frames omf pages table line) (sym e)
 
   pub spot-nothing : r ≡ Nothing → Archive ≡ spotOf lines frames omf pages table line r
@@ -197,8 +192,8 @@ module _ (w : Written) (pages live line : ℕ) (archive pool table : List ℕ) (
       record {
         omf-below = asks .asks .lent .omf-below;
         below = omega (arith, newest-within, asks .live-some, asks .live-within);
-        few = omega (arith, asks .frames-few);
+        few = omega (arith, asks .asks .lent .frames-few);
       }
 
   pub newest-fits : (f : ℕ) → f ≡ frameAt (w .frames) (w .omf) i → Fits w16 f
-  newest-fits f e = record { fits = omega (arith, e, frame-below (w .frames) (w .omf) (asks .asks .lent .omf-below) i, asks .frames-few) }
+  newest-fits f e = record { fits = omega (arith, e, frame-below (w .frames) (w .omf) (asks .asks .lent .omf-below) i, asks .asks .lent .frames-few) }

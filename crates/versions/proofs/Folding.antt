@@ -16,7 +16,7 @@ use Rattle.written.specs.Steps.{clearedBlock}
 use Rattle.written.proofs.Areas.{place-below, area-below}
 use Rattle.pages.specs.Lines.{pageLine, withArchiveLine}
 use Rattle.pages.specs.Table.{blocksOf}
-use Rattle.pages.specs.Ring.{pageAt, ownerIndex, indexAt, Leads}
+use Rattle.pages.specs.Ring.{nthPage, ownerIndex, indexAt, Leads}
 use Rattle.pages.proofs.Halving.{index-high}
 use Rattle.versions.specs.Steps.{foldedLine, foldedLines, foldedPage, foldedPages, clearedPage, clearedPages, AsksCopy, AsksFold, AsksGone}
 
@@ -96,7 +96,7 @@ module _ (w : Written) (pages first used : ℕ) (pool owners archive : List ℕ)
 
   module _ (n : ℕ) (now : List ℕ) (h : Pages n now) (b : n < used) (page owner index : ℕ) (at : page ≡ frameAt pages first n) (own : owner ≡ getD owners page 0)
       (is : index ≡ ownerIndex (w .frames) (w .omf) owner) where
-    owner-is : owner ≡ getD owners (pageAt pages first n) 0
+    owner-is : owner ≡ getD owners (nthPage pages first n) 0
     owner-is = own ∙ ap (λ (q : ℕ). getD owners q 0) at
 
     index-is : index ≡ indexes n

@@ -2,22 +2,21 @@
 use mathlib.Core.Path.{_≡_, sym, _∙_, ap}
 use mathlib.Core.Bool.{Bool, true, false, cond}
 use mathlib.Core.List.{List}
-use Prim.Native.Nat.{ℕ, _+_, _/_, _≤_, _<_, min}
+use Prim.Native.Nat.{ℕ, _+_, _/_, _<_, min}
 use native.Mathlib.Omega.{arith}
-use lib.ListN.{length, getD}
+use lib.ListN.{length, getD, set}
 use Rattle.frames.specs.Circle.{frameAt}
-use Rattle.frames.specs.declared.Found.{Found}
-use Rattle.frames.specs.declared.Found.the-variants.{At}
+use Rattle.numbers.specs.declared.Found.{Found}
+use Rattle.numbers.specs.declared.Found.the-variants.{At}
 use Rattle.frames.proofs.Circle.{frame-below}
 use Rattle.written.specs.Bits.{Written}
-use Rattle.pages.specs.Table.{placeAt}
+use Rattle.pages.specs.Table.{placeAt, entryAt, AsksEntry}
 use Rattle.pages.specs.Ring.{owns, nextPage}
-use Rattle.versions.specs.Newest.{entryAt}
 use Rattle.versions.specs.Steps.{ownsPage, pageFor, usedFor, AsksPut}
-use Rattle.versions.proofs.Finding.{entry-within}
+use Rattle.versions.proofs.Finding.{entry-asks}
 
 -- ---- the page of a write
-module _ (lines pages first used : ℕ) (table owners : List ℕ) (frame line page : ℕ) (e : (page ≡ getD table (entryAt lines frame line) 0) × (page < 65536)) (own : Bool)
+module _ (lines pages first used : ℕ) (table owners : List ℕ) (frame line page : ℕ) (e : (page ≡ getD table (entryAt lines frame (line / 8)) 0) × (page < 65536)) (own : Bool)
     (told : own ≡ owns pages first used owners page (placeAt frame (line / 8))) where
   abbrev Chosen : (page : Found) (used : ℕ) → Type 0
   Chosen p n = (p ≡ pageFor lines pages first used table owners frame line) × (n ≡ usedFor lines pages first used table owners frame line)
@@ -28,14 +27,14 @@ module _ (lines pages first used : ℕ) (table owners : List ℕ) (frame line pa
   pub page-own : own ≡ true → Chosen (At page) used
   unfolding pageFor usedFor
   page-own t = (
-    ap At (e .0) ∙ sym (ap (λ (b : Bool). cond b (At (getD table (entryAt lines frame line) 0)) (nextPage pages first used)) (sym own-is ∙ t)),
+    ap At (e .0) ∙ sym (ap (λ (b : Bool). cond b (At (getD table (entryAt lines frame (line / 8)) 0)) (nextPage pages first used)) (sym own-is ∙ t)),
     sym (ap (λ (b : Bool). cond b used (min pages (used + 1))) (sym own-is ∙ t)),
   )
 
   pub page-next : (next : Found) (n : ℕ) → own ≡ false → next ≡ nextPage pages first used → n ≡ min pages (used + 1) → Chosen next n
   unfolding pageFor usedFor
   page-next next n t d k = (
-    d ∙ sym (ap (λ (b : Bool). cond b (At (getD table (entryAt lines frame line) 0)) (nextPage pages first used)) (sym own-is ∙ t)),
+    d ∙ sym (ap (λ (b : Bool). cond b (At (getD table (entryAt lines frame (line / 8)) 0)) (nextPage pages first used)) (sym own-is ∙ t)),
     k ∙ sym (ap (λ (b : Bool). cond b used (min pages (used + 1))) (sym own-is ∙ t)),
   )
 
@@ -45,17 +44,18 @@ module _ (w : Written) (pages tag line index page : ℕ) (pool table owners : Li
   frame-within : f < w .frames
   frame-within = omega (arith, told, frame-below (w .frames) (w .omf) (asks .asks .lent .omf-below) index)
 
-  pub put-few : (w .lines ≤ 4096) × (f ≤ 4096) × (line ≤ 4096)
-  put-few =
-      (asks .asks .lent .lines-few, omega (arith, frame-within, asks .asks .lent .frames-few), omega (arith, asks .line-below, asks .asks .lent .lines-few))
-
-  pub put-claims : (entry : ℕ) → entry ≡ entryAt (w .lines) f line → (entry < length table) × (page < length owners)
-  put-claims entry e =
-      (omega (arith, e, entry-within (w .lines) (w .frames) f line (asks .asks .lines-by) frame-within (asks .line-below), asks .asks .table-long), omega (arith, asks .page-below, asks .owners-long))
+  pub put-claims : AsksEntry (w .lines) f (line / 8) (length table) × (page < length owners)
+  put-claims = (
+    entry-asks (w .lines) (w .frames) f line (length table) (asks .asks .lines-by) (asks .asks .lent .lines-few) (asks .asks .lent .frames-few) frame-within (asks .line-below)
+        (asks .asks .table-long),
+    omega (arith, asks .page-below, asks .owners-long),
+  )
 
 -- in the form in which the code has entry and place
-pub put-entry : (lines frames omf index line f entry : ℕ) → f ≡ frameAt frames omf index → entry ≡ entryAt lines f line → entry ≡ entryAt lines (frameAt frames omf index) line
-put-entry lines frames omf index line f entry e h = h ∙ ap (λ (g : ℕ). entryAt lines g line) e
+pub put-entry : (lines frames omf index block f page : ℕ) (table after : List ℕ) → f ≡ frameAt frames omf index → after ≡ set table (entryAt lines f block) page
+    → after ≡ set table (entryAt lines (frameAt frames omf index) block) page
+put-entry lines frames omf index block f page table after e h = h ∙ ap (λ (g : ℕ). set table (entryAt lines g block) page) e
 
-pub put-place : (frames omf index block f : ℕ) → f ≡ frameAt frames omf index → placeAt f block ≡ placeAt (frameAt frames omf index) block
-put-place frames omf index block f e = ap (λ (g : ℕ). placeAt g block) e
+pub put-place : (frames omf index block f page : ℕ) (owners after : List ℕ) → f ≡ frameAt frames omf index → after ≡ set owners page (placeAt f block)
+    → after ≡ set owners page (placeAt (frameAt frames omf index) block)
+put-place frames omf index block f page owners after e h = h ∙ ap (λ (g : ℕ). set owners page (placeAt g block)) e

@@ -11,16 +11,16 @@ use lib.Dec.{eqb}
 use lib.ListN.{length, getD}
 use Rattle.rules.specs.Line.{Line}
 use Rattle.rules.proofs.Tests.{both-true}
-use Rattle.frames.specs.declared.Found.{Found}
-use Rattle.frames.specs.declared.Found.the-variants.{At, Nothing}
+use Rattle.numbers.specs.declared.Found.{Found}
+use Rattle.numbers.specs.declared.Found.the-variants.{At, Nothing}
 use Rattle.frames.specs.Circle.{indexOf, frameAt}
-use Rattle.frames.specs.Search.{greatest}
+use Rattle.numbers.specs.Search.{greatest}
 use Rattle.frames.proofs.Circle.{frame-below, index-frame, frame-index}
-use Rattle.frames.proofs.Search.{greatest-none, greatest-at, greatest-nothing, Greatest, greatest-found}
+use Rattle.numbers.proofs.Search.{greatest-none, greatest-at, greatest-nothing, Greatest, greatest-found}
 use Rattle.written.specs.Bits.{Written, Lent, effective}
 use Rattle.pages.specs.Lines.{pageLine, archiveLine}
 use Rattle.pages.specs.Table.{blocksOf, placesOf, placeAt, entryOf}
-use Rattle.pages.specs.Ring.{pageAt, positionOf, Rising, Splits, ownerIndex, indexAt, WellRing}
+use Rattle.pages.specs.Ring.{nthPage, positionOf, Rising, Splits, ownerIndex, indexAt, WellRing}
 use Rattle.pages.proofs.Needs.{place-frame, place-block, effective-needed}
 use Rattle.pages.proofs.Keeping.{owner-index}
 use Rattle.versions.specs.declared.Spot.the-variants.{Page, Archive}
@@ -77,7 +77,7 @@ module _ (n k : ℕ) (f g : ℕ → Bool) (idx : ℕ → ℕ) (hits : (i : ℕ) 
 module _ (w : Written) (lent : Lent w) (pages first used gone k : ℕ) (below : k ≤ w .frames) (table owners : List ℕ) (r : WellRing w pages first used table owners)
     (parts : Splits used (indexAt (w .frames) (w .omf) pages first owners) k gone) (by : w .lines % 8 ≡ 0) (l : ℕ) (line-below : l < w .lines) where
   abbrev owner : ℕ → ℕ
-  owner i = getD owners (pageAt pages first i) 0
+  owner i = getD owners (nthPage pages first i) 0
 
   abbrev indexed : ℕ → ℕ
   indexed i = ownerIndex (w .frames) (w .omf) (owner i)
@@ -138,14 +138,14 @@ module _ (w : Written) (lent : Lent w) (pages first used gone k : ℕ) (below : 
       in
       omega (arith, eqb-true (owner i % 512) (l / 8) (both-true (eqb (owner i % 512) (l / 8)) (effective w (indexed i) l) e .0))
 
-  has-page : (i : ℕ) → i < used → has i ≡ true → pageAt pages first i ≡ getD table (entryOf w (place (indexed i))) 0
+  has-page : (i : ℕ) → i < used → has i ≡ true → nthPage pages first i ≡ getD table (entryOf w (place (indexed i))) 0
   has-page i b e = sym (r .backed i b .back) ∙ ap (λ (x : ℕ). getD table (entryOf w x) 0) (has-place i b e)
 
   has-one : (i j : ℕ) → i < gone → j < gone → has i ≡ true → has j ≡ true → indexed i ≡ indexed j → i ≡ j
   has-one i j a b p q e =
       let c : i < used = omega (arith, parts .few) in
       let d : j < used = omega (arith, parts .few) in
-      let same : pageAt pages first i ≡ pageAt pages first j =
+      let same : nthPage pages first i ≡ nthPage pages first j =
       has-page i c p ∙ (ap (λ (x : ℕ). getD table (entryOf w (place x)) 0) e ∙ sym (has-page j d q))
       in
       sym (index-frame pages first (r .first-below) i (omega (arith, r .used-few)))
@@ -159,23 +159,23 @@ module _ (w : Written) (lent : Lent w) (pages first used gone k : ℕ) (below : 
     abbrev content : Found → Line
     content f = contentOf archive pool l (spotOf (w .lines) (w .frames) (w .omf) pages table l f)
 
-    picked : (f : Found) → greatest k row ≡ f → pick (archiveLine archive l) (λ i. pageLine pool (pageAt pages first i) (l % 8)) (greatest gone has) ≡ content f
+    picked : (f : Found) → greatest k row ≡ f → pick (archiveLine archive l) (λ i. pageLine pool (nthPage pages first i) (l % 8)) (greatest gone has) ≡ content f
     unfolding pick contentOf spotOf pageOf
-    picked Nothing e = ap (pick (archiveLine archive l) (λ i. pageLine pool (pageAt pages first i) (l % 8))) (newest-none gone k has row indexed has-hits has-all has-rising has-one e)
+    picked Nothing e = ap (pick (archiveLine archive l) (λ i. pageLine pool (nthPage pages first i) (l % 8))) (newest-none gone k has row indexed has-hits has-all has-rising has-one e)
     picked (At j) e =
         let h = newest-some gone k has row indexed has-hits has-all has-rising has-one j e in
         let c : h .0 < used = omega (arith, h .1, parts .few) in
-        let page : pageAt pages first (h .0) ≡ pageOf (w .lines) (w .frames) (w .omf) table j l =
+        let page : nthPage pages first (h .0) ≡ pageOf (w .lines) (w .frames) (w .omf) table j l =
         has-page (h .0) c (h .3)
         ∙ (ap (λ (x : ℕ). getD table (entryOf w (place x)) 0) (h .4)
         ∙ ap₂ (λ (x y : ℕ). getD table (x * blocksOf w + y) 0) (place-frame (frameAt (w .frames) (w .omf) j) (l / 8) block-few) (place-block (frameAt (w .frames) (w .omf) j) (l / 8) block-few))
         in
         let low : pageOf (w .lines) (w .frames) (w .omf) table j l < pages = omega (arith, page, frame-below pages first (r .first-below) (h .0)) in
-        ap (pick (archiveLine archive l) (λ i. pageLine pool (pageAt pages first i) (l % 8))) (h .2)
+        ap (pick (archiveLine archive l) (λ i. pageLine pool (nthPage pages first i) (l % 8))) (h .2)
         ∙ (ap (λ (p : ℕ). pageLine pool p (l % 8)) page
         ∙ sym (ap (λ (t : Bool). contentOf archive pool l (cond t (Page (pageOf (w .lines) (w .frames) (w .omf) table j l)) Archive)) (lt-ltb (pageOf (w .lines) (w .frames) (w .omf) table j l) pages low)))
 
     pub folded-line : 16 * w .lines ≤ length archive → 128 * pages ≤ length pool → archiveLine (foldedPages w pages first pool owners gone archive) l ≡ content (greatest k row)
     folded-line inside room =
         pages-folded w pages first owners pool gone archive by inside (r .first-below) room .line l line-below
-        ∙ (walk-picks (archiveLine archive l) (λ i. pageLine pool (pageAt pages first i) (l % 8)) has gone ∙ picked (greatest k row) refl)
+        ∙ (walk-picks (archiveLine archive l) (λ i. pageLine pool (nthPage pages first i) (l % 8)) has gone ∙ picked (greatest k row) refl)

@@ -1,5 +1,5 @@
 -- Where the newest version of a line stands, up to the frame of an index, and its bytes.
-use Prim.Native.Nat.{ℕ, _+_, _-_, _*_, _/_, _%_, _≤_, _<_}
+use Prim.Native.Nat.{ℕ, _-_, _*_, _/_, _%_, _≤_, _<_}
 use mathlib.Core.Path.{_≡_}
 use mathlib.Core.Bool.{cond}
 use mathlib.Core.List.{List}
@@ -10,11 +10,11 @@ use Rattle.rules.specs.Call as call
 use Rattle.rules.specs.Call.Place.{in-frame, in-archive}
 use Rattle.rules.specs.Call.Origin.{from-cache, from}
 use Rattle.frames.specs.Circle.{frameAt}
-use Rattle.frames.specs.declared.Found.{Found}
-use Rattle.frames.specs.declared.Found.the-variants.{At, Nothing}
+use Rattle.numbers.specs.declared.Found.{Found}
+use Rattle.numbers.specs.declared.Found.the-variants.{At, Nothing}
 use Rattle.written.specs.Bits.{Written, newestFrom}
 use Rattle.pages.specs.Lines.{pageLine, archiveLine}
-use Rattle.pages.specs.Table.{AsksTable}
+use Rattle.pages.specs.Table.{entryAt, AsksTable}
 use Rattle.cache.specs.declared.Cache.{Cache}
 use Rattle.cache.specs.declared.Entry.{Entry}
 use Rattle.cache.specs.declared.Entry.the-variants.{Hit, Miss}
@@ -26,13 +26,9 @@ use Rattle.versions.specs.declared.Origin as code
 use Rattle.versions.specs.declared.Origin.the-variants as origin
 use Rattle.versions.specs.declared.Version.{Version}
 
--- "A page holds 8 neighbouring lines of one frame": where the table has the page of a line in a frame, and what it has there for the
--- frame of an index.
-abbrev pub entryAt : (lines frame line : ℕ) → ℕ
-entryAt lines f l = f * (lines / 8) + l / 8
-
+-- What the table has for a line in the frame of an index.
 unfoldable pub pageOf : (lines frames omf : ℕ) → (table : List ℕ) → (index line : ℕ) → ℕ
-pageOf lines frames omf table i l = getD table (entryAt lines (frameAt frames omf i) l) 0
+pageOf lines frames omf table i l = getD table (entryAt lines (frameAt frames omf i) (l / 8)) 0
 
 -- Where a version stands that a search found: in the page that the table names, or else in the archive. A number that is no page's,
 -- which no well-formed table names, counts as the archive.
@@ -86,12 +82,6 @@ latestOf c w pages live archive pool table l =
     latestHeld (c .lines) (c .frames) (c .valid) (c .bytes) w pages live archive pool table l
 
 -- What the functions ask of the numbers and the lent lengths; the store tests it.
-pub record AsksEntry (lines frame line long : ℕ) : Type 0 where
-  pub lines-few : lines ≤ 4096
-  pub frame-few : frame ≤ 4096
-  pub line-few : line ≤ 4096
-  pub entry-below : entryAt lines frame line < long
-
 pub record AsksSpot (lines frames omf line : ℕ) (found : Found) (long : ℕ) : Type 0 where
   pub lines-by : lines % 8 ≡ 0
   pub lines-few : lines ≤ 4096
@@ -114,7 +104,6 @@ pub record AsksContent (lines pages line : ℕ) (spot : Spot) (archive pool : �
 -- What is asked to find a line's newest version among the live frames.
 pub record AsksNewest (w : Written) (pages live line : ℕ) (archive pool table : List ℕ) : Type 0 where
   pub asks : AsksTable w table
-  pub frames-few : w .frames ≤ 256
   pub live-some : 0 < live
   pub live-within : live ≤ w .frames
   pub line-below : line < w .lines

@@ -5,15 +5,14 @@ use mathlib.Core.Bool.{Bool, cond}
 use mathlib.Core.List.{List}
 use lib.Dec.{ltb}
 use lib.ListN.{length, getD}
-use Rattle.frames.specs.Lists.{rewrite}
-use Rattle.frames.specs.declared.Found.{Found}
-use Rattle.frames.specs.declared.Found.the-variants.{At}
+use Rattle.lists.specs.Lists.{rewrite}
+use Rattle.numbers.specs.declared.Found.{Found}
+use Rattle.numbers.specs.declared.Found.the-variants.{At}
 use Rattle.written.specs.Bits.{Written, Lent, effective}
 use Rattle.written.specs.Steps.{clearedBlock}
 use Rattle.pages.specs.Lines.{pageLine, withArchiveLine}
-use Rattle.pages.specs.Table.{blocksOf, placeAt, AsksTable}
-use Rattle.pages.specs.Ring.{pageAt, ownerIndex, indexAt, owns, nextPage, AsksRing}
-use Rattle.versions.specs.Newest.{entryAt, AsksEntry}
+use Rattle.pages.specs.Table.{blocksOf, placeAt, AsksTable, entryAt, AsksEntry}
+use Rattle.pages.specs.Ring.{nthPage, ownerIndex, indexAt, owns, nextPage, AsksRing}
 
 -- RESET: "archive all zero".
 unfoldable pub zeroed : (lines : ℕ) → List ℕ → List ℕ
@@ -37,8 +36,8 @@ foldedPage w pool page index block archive = cond (ltb block (blocksOf w)) (fold
 unfoldable pub foldedPages : Written → (pages first : ℕ) → (pool owners : List ℕ) → ℕ → List ℕ → List ℕ
 foldedPages w pages first pool owners zero archive = archive
 foldedPages w pages first pool owners (suc n) archive =
-    let owner = getD owners (pageAt pages first n) 0 in
-    foldedPage w pool (pageAt pages first n) (ownerIndex (w .frames) (w .omf) owner) (owner % 512) (foldedPages w pages first pool owners n archive)
+    let owner = getD owners (nthPage pages first n) 0 in
+    foldedPage w pool (nthPage pages first n) (ownerIndex (w .frames) (w .omf) owner) (owner % 512) (foldedPages w pages first pool owners n archive)
 
 -- Their frames' bits in the lines of their blocks are cleared.
 unfoldable pub clearedPage : (lines owner : ℕ) → List ℕ → List ℕ
@@ -47,16 +46,16 @@ clearedPage lines owner groups = cond (ltb (owner % 512) (lines / 8)) (clearedBl
 unfoldable pub clearedPages : (lines pages first : ℕ) → (owners : List ℕ) → ℕ → List ℕ → List ℕ
 clearedPages lines pages first owners zero groups = groups
 clearedPages lines pages first owners (suc n) groups =
-    clearedPage lines (getD owners (pageAt pages first n) 0) (clearedPages lines pages first owners n groups)
+    clearedPage lines (getD owners (nthPage pages first n) 0) (clearedPages lines pages first owners n groups)
 
 -- The page that a write to a line in a frame goes to: the one that the table names where it is the place's own, and else the next of the
 -- ring. Nothing: none is left.
 module _ (lines pages first used : ℕ) (table owners : List ℕ) (f l : ℕ) where
   abbrev pub ownsPage : Bool
-  ownsPage = owns pages first used owners (getD table (entryAt lines f l) 0) (placeAt f (l / 8))
+  ownsPage = owns pages first used owners (getD table (entryAt lines f (l / 8)) 0) (placeAt f (l / 8))
 
   unfoldable pub pageFor : Found
-  pageFor = cond ownsPage (At (getD table (entryAt lines f l) 0)) (nextPage pages first used)
+  pageFor = cond ownsPage (At (getD table (entryAt lines f (l / 8)) 0)) (nextPage pages first used)
 
   -- How many pages are in use then.
   unfoldable pub usedFor : ℕ
@@ -65,7 +64,7 @@ module _ (lines pages first used : ℕ) (table owners : List ℕ) (f l : ℕ) wh
 -- What is asked to give a write its page,
 pub record AsksPageFor (lines frames omf pages first used frame line table owners : ℕ) : Type 0 where
   pub ring : AsksRing pages first used frames omf owners
-  pub entry : AsksEntry lines frame line table
+  pub entry : AsksEntry lines frame (line / 8) table
 
 -- and to put a line there, in the frame of an index: the line is copied to its slot, the page is the place's, and the written bit is set.
 pub record AsksPut (w : Written) (pages tag line index page : ℕ) (pool table owners : List ℕ) : Type 0 where

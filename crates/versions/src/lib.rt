@@ -2,19 +2,20 @@
 // in its page. Every function is safe on any contents; what the `requires` ask of numbers and lengths is tested by the store, and only our
 // own crates call them.
 use cache::Entry;
-use frames::Found;
+use numbers::Found;
 use pages::Ring;
+use written::Shape;
 ghost use mathlib.Core.Path.{_≡_};
 ghost use Prim.Native.Nat.{_+_, _*_, _/_, _%_, _≤_, _<_};
 ghost use lib.ListN;
 ghost use lib.ListN.{length, getD};
 ghost use Rattle.frames.specs.Circle.{frameAt};
-ghost use Rattle.written.specs.Bits.{writtenOf, placeOf};
+ghost use Rattle.written.specs.Bits.{writtenAt, placeOf};
 ghost use Rattle.written.specs.Steps.{withWritten};
 ghost use Rattle.pages.specs.Lines.{withPageLine};
-ghost use Rattle.pages.specs.Table.{placeAt};
+ghost use Rattle.pages.specs.Table.{placeAt, entryAt, AsksEntry};
 ghost use Rattle.pages.specs.Ring.{indexAt, Leads};
-ghost use Rattle.versions.specs.Newest.{entryAt, spotOf, contentOf, newestOf, latestHeld, AsksEntry, AsksSpot, AsksContent, AsksNewest};
+ghost use Rattle.versions.specs.Newest.{spotOf, contentOf, newestOf, latestHeld, AsksSpot, AsksContent, AsksNewest};
 ghost use Rattle.versions.specs.Steps.{zeroed, foldedLine, foldedPage, foldedPages, clearedPage, clearedPages, pageFor, usedFor, AsksPageFor, AsksPut, AsksCopy, AsksFold, AsksGone};
 
 // Where a version stands: in a page of the pool, in the slot of its line, or in the archive.
@@ -43,39 +44,15 @@ pub struct Choice {
     pub used: u32,
 }
 
-// Where the table has the page of a line in a frame.
-fn entry_at(lines: u32, frame: u32, line: u32) -> u32
-    requires { ⌜ (lines ≤ 4096) × (frame ≤ 4096) × (line ≤ 4096) ⌝ }
-    ensures { λ r. ⌜ r ≡ entryAt lines frame line ⌝ }
-{
-    frame * (lines / 8) + line / 8
-}
-
-// The page that the table names there.
-fn named(table: &[u16], lines: u32, frame: u32, line: u32) -> u32
-    requires { ⌜ AsksEntry lines frame line (length (now table)) ⌝ }
-    ensures { λ r. ⌜ (r ≡ getD (now (table .entry)) (entryAt lines frame line) 0) × (r < 65536) ⌝ }
-{
-    let at = entry_at(lines, frame, line) as usize;
-    frames::wide(table[at])
-}
-
 // Where a version that a search found stands.
-pub fn locate(
-    table: &[u16],
-    lines: u32,
-    frames: u32,
-    omf: u32,
-    pages: u32,
-    line: u32,
-    found: Found,
-) -> Spot
-    requires { ⌜ AsksSpot lines frames omf line found (length (now table)) ⌝ }
-    ensures { λ r. ⌜ r ≡ spotOf lines frames omf pages (now (table .entry)) line found ⌝ }
+pub fn locate(table: &[u16], shape: Shape, pages: u32, line: u32, found: Found) -> Spot
+    requires { ⌜ AsksSpot (shape .lines) (shape .frames) (shape .omf) line found (length (now table)) ⌝ }
+    ensures { λ r. ⌜ r ≡ spotOf (shape .lines) (shape .frames) (shape .omf) pages (now (table .entry)) line found ⌝ }
 {
     match found {
         Found::At(i) => {
-            let page = named(table, lines, frames::frame_at(i, omf, frames), line);
+            let frame = frames::frame_at(shape.frames, shape.omf, i);
+            let page = pages::table::page_at(table, shape, frame, line / 8);
             if page < pages {
                 return Spot::Page(page);
             }
@@ -89,12 +66,12 @@ pub fn locate(
 pub fn content_at(
     archive: &[u8],
     pool: &[u8],
-    lines: u32,
+    shape: Shape,
     pages: u32,
     line: u32,
     spot: Spot,
 ) -> [u8; 16]
-    requires { ⌜ AsksContent lines pages line spot (length (now archive)) (length (now pool)) ⌝ }
+    requires { ⌜ AsksContent (shape .lines) pages line spot (length (now archive)) (length (now pool)) ⌝ }
     ensures { λ r. ⌜ r ≡ contentOf (now (archive .entry)) (now (pool .entry)) line spot ⌝ }
 {
     match spot {
@@ -110,25 +87,27 @@ pub fn newest(
     groups: &[u32],
     table: &[u16],
     history: &[u16],
-    lines: u32,
-    frames: u32,
-    omf: u32,
+    shape: Shape,
     pages: u32,
     live: u32,
     line: u32,
 ) -> Version
-    requires { ⌜ AsksNewest (writtenOf lines frames omf (now groups) (now history)) pages live line (now archive) (now pool) (now table) ⌝ }
-    ensures { λ r. ⌜ r ≡ newestOf (writtenOf lines frames omf (now (groups .entry)) (now (history .entry))) pages live (now (archive .entry)) (now (pool .entry)) (now (table .entry)) line ⌝ }
+    requires { ⌜ AsksNewest (writtenAt shape (now groups) (now history)) pages live line (now archive) (now pool) (now table) ⌝ }
+    ensures { λ r. ⌜ r ≡ newestOf (writtenAt shape (now (groups .entry)) (now (history .entry))) pages live (now (archive .entry)) (now (pool .entry)) (now (table .entry)) line ⌝ }
 {
-    let found = written::search(groups, history, lines, frames, omf, line, live - 1);
-    let at = locate(table, lines, frames, omf, pages, line, found);
-    let content = content_at(archive, pool, lines, pages, line, at);
+    let found = written::search(groups, history, shape, line, live - 1);
+    let at = locate(table, shape, pages, line, found);
+    let content = content_at(archive, pool, shape, pages, line, at);
     match found {
-        Found::At(i) => Version {
-            content,
-            frame: frames::frame_at(i, omf, frames) as u16,
-            origin: Origin::Frame(live - 1 - i),
-        },
+        Found::At(i) => {
+            let frame = frames::frame_at(shape.frames, shape.omf, i) as u16;
+            let back = live - 1 - i;
+            Version {
+                content,
+                frame,
+                origin: Origin::Frame(back),
+            }
+        }
         Found::Nothing => Version {
             content,
             frame: cache::ARCHIVE,
@@ -148,15 +127,13 @@ pub fn latest<'a>(
     groups: &[u32],
     table: &[u16],
     history: &[u16],
-    lines: u32,
-    frames: u32,
-    omf: u32,
+    shape: Shape,
     pages: u32,
     live: u32,
     line: u32,
 ) -> Version
-    requires { ⌜ AsksNewest (writtenOf lines frames omf (now groups) (now history)) pages live line (now archive) (now pool) (now table) ⌝ }
-    ensures { λ r. ⌜ r ≡ latestHeld (now (held .entry)) (now (origins .entry)) (now (valid .entry)) (now (bytes .entry)) (writtenOf lines frames omf (now (groups .entry)) (now (history .entry))) pages live (now (archive .entry)) (now (pool .entry)) (now (table .entry)) line ⌝ }
+    requires { ⌜ AsksNewest (writtenAt shape (now groups) (now history)) pages live line (now archive) (now pool) (now table) ⌝ }
+    ensures { λ r. ⌜ r ≡ latestHeld (now (held .entry)) (now (origins .entry)) (now (valid .entry)) (now (bytes .entry)) (writtenAt shape (now (groups .entry)) (now (history .entry))) pages live (now (archive .entry)) (now (pool .entry)) (now (table .entry)) line ⌝ }
 {
     match cache::find(held, valid, line) {
         Entry::Hit(entry) => Version {
@@ -170,9 +147,7 @@ pub fn latest<'a>(
             groups,
             table,
             history,
-            lines,
-            frames,
-            omf,
+            shape,
             pages,
             live,
             line,
@@ -204,18 +179,10 @@ fn fold_line(
     index: u32,
     line: u32,
 )
-    requires { ⌜ (AsksCopy (writtenOf (ring .lines) (ring .frames) (ring .omf) (now groups) (now history)) (ring .pages) page index (length (now archive)) (length (now pool))) × (line < ring .lines) ⌝ }
-    ensures { λ _. ⌜ now (archive .exit) ≡ foldedLine (writtenOf (ring .lines) (ring .frames) (ring .omf) (now (groups .entry)) (now (history .entry))) (now (pool .entry)) page index line (now (archive .entry)) ⌝ }
+    requires { ⌜ (AsksCopy (writtenAt (ring .shape) (now groups) (now history)) (ring .pages) page index (length (now archive)) (length (now pool))) × (line < ring .shape .lines) ⌝ }
+    ensures { λ _. ⌜ now (archive .exit) ≡ foldedLine (writtenAt (ring .shape) (now (groups .entry)) (now (history .entry))) (now (pool .entry)) page index line (now (archive .entry)) ⌝ }
 {
-    if !written::has(
-        groups,
-        history,
-        ring.lines,
-        ring.frames,
-        ring.omf,
-        line,
-        index,
-    ) {
+    if !written::has(groups, history, ring.shape, line, index) {
         return;
     }
     let content = pages::lines::read_page_line(pool, page, line % 8);
@@ -233,10 +200,10 @@ fn fold_page(
     index: u32,
     block: u32,
 )
-    requires { ⌜ AsksCopy (writtenOf (ring .lines) (ring .frames) (ring .omf) (now groups) (now history)) (ring .pages) page index (length (now archive)) (length (now pool)) ⌝ }
-    ensures { λ _. ⌜ now (archive .exit) ≡ foldedPage (writtenOf (ring .lines) (ring .frames) (ring .omf) (now (groups .entry)) (now (history .entry))) (now (pool .entry)) page index block (now (archive .entry)) ⌝ }
+    requires { ⌜ AsksCopy (writtenAt (ring .shape) (now groups) (now history)) (ring .pages) page index (length (now archive)) (length (now pool)) ⌝ }
+    ensures { λ _. ⌜ now (archive .exit) ≡ foldedPage (writtenAt (ring .shape) (now (groups .entry)) (now (history .entry))) (now (pool .entry)) page index block (now (archive .entry)) ⌝ }
 {
-    if ring.lines / 8 <= block {
+    if ring.shape.lines / 8 <= block {
         return;
     }
     let mut n = 0;
@@ -265,16 +232,16 @@ pub fn fold(
     ring: Ring,
     k: u32,
 ) -> u32
-    requires { ⌜ (AsksFold (writtenOf (ring .lines) (ring .frames) (ring .omf) (now groups) (now history)) (ring .pages) (ring .first) (ring .used) (length (now archive)) (length (now pool)) (length (now owners))) × (k < ring .frames) ⌝ }
-    ensures { λ r. ⌜ (Leads (ring .used) (indexAt (ring .frames) (ring .omf) (ring .pages) (ring .first) (now (owners .entry))) k r)
-        × (now (archive .exit) ≡ foldedPages (writtenOf (ring .lines) (ring .frames) (ring .omf) (now (groups .entry)) (now (history .entry))) (ring .pages) (ring .first) (now (pool .entry)) (now (owners .entry)) r (now (archive .entry))) ⌝ }
+    requires { ⌜ (AsksFold (writtenAt (ring .shape) (now groups) (now history)) (ring .pages) (ring .first) (ring .used) (length (now archive)) (length (now pool)) (length (now owners))) × (k < ring .shape .frames) ⌝ }
+    ensures { λ r. ⌜ (Leads (ring .used) (indexAt (ring .shape .frames) (ring .shape .omf) (ring .pages) (ring .first) (now (owners .entry))) k r)
+        × (now (archive .exit) ≡ foldedPages (writtenAt (ring .shape) (now (groups .entry)) (now (history .entry))) (ring .pages) (ring .first) (now (pool .entry)) (now (owners .entry)) r (now (archive .entry))) ⌝ }
 {
     let used = ring.used;
     let mut i = 0;
     while i < used {
-        let page = frames::frame_at(i, ring.first, ring.pages);
+        let page = frames::frame_at(ring.pages, ring.first, i);
         let owner = owners[page as usize];
-        let index = pages::segment::owner_index(ring, owner);
+        let index = pages::segment::owner_index(ring.shape, owner);
         if k <= index {
             return i;
         }
@@ -294,37 +261,37 @@ pub fn fold(
 }
 
 // Clears the bits of a page's frame in the lines of its block.
-fn clear_page(groups: &mut [u32], lines: u32, owner: u32)
-    requires { ⌜ (lines ≤ 4096) × (owner / 512 ≤ 4096) × (owner % 512 < lines / 8 → placeOf lines (owner / 512 / 16) (owner % 512 * 8) + 8 ≤ length (now groups)) ⌝ }
-    ensures { λ _. ⌜ now (groups .exit) ≡ clearedPage lines owner (now (groups .entry)) ⌝ }
+fn clear_page(groups: &mut [u32], shape: Shape, owner: u32)
+    requires { ⌜ (shape .lines ≤ 4096) × (owner / 512 ≤ 4096) × (owner % 512 < shape .lines / 8 → placeOf (shape .lines) (owner / 512 / 16) (owner % 512 * 8) + 8 ≤ length (now groups)) ⌝ }
+    ensures { λ _. ⌜ now (groups .exit) ≡ clearedPage (shape .lines) owner (now (groups .entry)) ⌝ }
 {
     let block = owner % 512;
-    if lines / 8 <= block {
+    if shape.lines / 8 <= block {
         return;
     }
-    written::clear_block(groups, lines, owner / 512, block);
+    written::clear_block(groups, shape, owner / 512, block);
 }
 
 // Clears the bits of the ring's first pages so.
 pub fn clear(groups: &mut [u32], owners: &[u32], ring: Ring, gone: u32)
-    requires { ⌜ AsksGone (ring .lines) (ring .frames) (ring .omf) (ring .pages) (ring .first) (ring .used) (now owners) gone (length (now groups)) ⌝ }
-    ensures { λ _. ⌜ now (groups .exit) ≡ clearedPages (ring .lines) (ring .pages) (ring .first) (now (owners .entry)) gone (now (groups .entry)) ⌝ }
+    requires { ⌜ AsksGone (ring .shape .lines) (ring .shape .frames) (ring .shape .omf) (ring .pages) (ring .first) (ring .used) (now owners) gone (length (now groups)) ⌝ }
+    ensures { λ _. ⌜ now (groups .exit) ≡ clearedPages (ring .shape .lines) (ring .pages) (ring .first) (now (owners .entry)) gone (now (groups .entry)) ⌝ }
 {
     let mut i = 0;
     while i < gone {
-        let page = frames::frame_at(i, ring.first, ring.pages) as usize;
-        clear_page(groups, ring.lines, owners[page]);
+        let page = frames::frame_at(ring.pages, ring.first, i) as usize;
+        clear_page(groups, ring.shape, owners[page]);
         i = i + 1;
     }
 }
 
 // The page that a write to a line in a frame goes to: the place's own, and else the next of the ring.
 pub fn page_for(table: &[u16], owners: &[u32], ring: Ring, frame: u32, line: u32) -> Choice
-    requires { ⌜ AsksPageFor (ring .lines) (ring .frames) (ring .omf) (ring .pages) (ring .first) (ring .used) frame line (length (now table)) (length (now owners)) ⌝ }
-    ensures { λ r. ⌜ (r .page ≡ pageFor (ring .lines) (ring .pages) (ring .first) (ring .used) (now (table .entry)) (now (owners .entry)) frame line)
-        × (r .used ≡ usedFor (ring .lines) (ring .pages) (ring .first) (ring .used) (now (table .entry)) (now (owners .entry)) frame line) ⌝ }
+    requires { ⌜ AsksPageFor (ring .shape .lines) (ring .shape .frames) (ring .shape .omf) (ring .pages) (ring .first) (ring .used) frame line (length (now table)) (length (now owners)) ⌝ }
+    ensures { λ r. ⌜ (r .page ≡ pageFor (ring .shape .lines) (ring .pages) (ring .first) (ring .used) (now (table .entry)) (now (owners .entry)) frame line)
+        × (r .used ≡ usedFor (ring .shape .lines) (ring .pages) (ring .first) (ring .used) (now (table .entry)) (now (owners .entry)) frame line) ⌝ }
 {
-    let page = named(table, ring.lines, frame, line);
+    let page = pages::table::page_at(table, ring.shape, frame, line / 8);
     if pages::segment::is_own(owners, ring, page, frame * 512 + line / 8) {
         return Choice {
             page: Found::At(page),
@@ -333,7 +300,7 @@ pub fn page_for(table: &[u16], owners: &[u32], ring: Ring, frame: u32, line: u32
     }
     Choice {
         page: pages::segment::next_page(ring),
-        used: frames::least(ring.pages, ring.used + 1),
+        used: numbers::min(ring.pages, ring.used + 1),
     }
 }
 
@@ -345,9 +312,7 @@ pub fn put(
     table: &mut [u16],
     owners: &mut [u32],
     history: &[u16],
-    lines: u32,
-    frames: u32,
-    omf: u32,
+    shape: Shape,
     tag: u32,
     pages: u32,
     line: u32,
@@ -355,16 +320,14 @@ pub fn put(
     page: u32,
     content: [u8; 16],
 )
-    requires { ⌜ AsksPut (writtenOf lines frames omf (now groups) (now history)) pages tag line index page (now pool) (now table) (now owners) ⌝ }
+    requires { ⌜ AsksPut (writtenAt shape (now groups) (now history)) pages tag line index page (now pool) (now table) (now owners) ⌝ }
     ensures bytes { λ _. ⌜ now (pool .exit) ≡ withPageLine (now (pool .entry)) page (line % 8) content ⌝ }
-    ensures bit { λ _. ⌜ now (groups .exit) ≡ withWritten (writtenOf lines frames omf (now (groups .entry)) (now (history .entry))) tag line index ⌝ }
-    ensures table { λ _. ⌜ now (table .exit) ≡ ListN.set (now (table .entry)) (entryAt lines (frameAt frames omf index) line) page ⌝ }
-    ensures owner { λ _. ⌜ now (owners .exit) ≡ ListN.set (now (owners .entry)) page (placeAt (frameAt frames omf index) (line / 8)) ⌝ }
+    ensures bit { λ _. ⌜ now (groups .exit) ≡ withWritten (writtenAt shape (now (groups .entry)) (now (history .entry))) tag line index ⌝ }
+    ensures table { λ _. ⌜ now (table .exit) ≡ ListN.set (now (table .entry)) (entryAt (shape .lines) (frameAt (shape .frames) (shape .omf) index) (line / 8)) page ⌝ }
+    ensures owner { λ _. ⌜ now (owners .exit) ≡ ListN.set (now (owners .entry)) page (placeAt (frameAt (shape .frames) (shape .omf) index) (line / 8)) ⌝ }
 {
     pages::lines::write_page_line(pool, page, line % 8, content);
-    let frame = frames::frame_at(index, omf, frames);
-    let entry = entry_at(lines, frame, line);
-    let place = frame * 512 + line / 8;
-    pages::segment::claim(table, owners, entry, place, page as u16);
-    written::set(groups, history, lines, frames, omf, tag, line, index);
+    let frame = frames::frame_at(shape.frames, shape.omf, index);
+    pages::table::claim(table, owners, shape, frame, line / 8, page as u16);
+    written::set(groups, history, shape, tag, line, index);
 }

@@ -9,10 +9,10 @@ use lib.Dec.{leb}
 use lib.ListN.{getD}
 use Rattle.rules.proofs.Count.{any-false, any-found}
 use Rattle.rules.proofs.Tests.{both-true}
-use Rattle.frames.specs.Digits.{bit, newestBit}
-use Rattle.frames.specs.declared.Found.{Found}
-use Rattle.frames.specs.declared.Found.the-variants.{At, Nothing}
-use Rattle.frames.proofs.Search.{greatest-nothing, greatest-found}
+use Rattle.numbers.specs.Digits.{bit, newestBit}
+use Rattle.numbers.specs.declared.Found.{Found}
+use Rattle.numbers.specs.declared.Found.the-variants.{At, Nothing}
+use Rattle.numbers.proofs.Search.{greatest-nothing, greatest-found}
 use Rattle.written.specs.Bits.{Written, tagOf, effective, anyFrom, blockHas, AsksBlock}
 use Rattle.written.specs.Steps.{Ordered}
 use Rattle.written.specs.Well.{WellBits}

@@ -3,7 +3,7 @@ use mathlib.Core.Path.{_≡_, refl, sym, _∙_, ap, ap₂, subst}
 use mathlib.Core.Bool.{Bool, true, false, not, _&&_, false≢true}
 use mathlib.Core.List.{List}
 use Prim.Native.Nat.{ℕ, zero, suc, _+_, _*_, _/_, _%_, _≤_, _<_}
-use native.Mathlib.Nat.{mul-le-mul, le-refl, suc-mul, mod-lt, div-lt-iff-lt-mul, div-add-mod'}
+use native.Mathlib.Nat.{mul-le-mul, le-refl, suc-mul, mod-lt, div-lt-iff-lt-mul}
 use native.Mathlib.Numerals.{add-one}
 use native.Mathlib.Decide.{ℕ-discrete}
 use native.Mathlib.Omega.{arith}
@@ -13,23 +13,23 @@ use lib.ListN.{length, getD}
 use Rattle.rules.specs.Seen.{needs}
 use Rattle.frames.specs.Circle.{indexOf, frameAt}
 use Rattle.written.specs.Bits.{Written, AsksBlock, effective}
-use Rattle.pages.specs.Table.{blocksOf, placeAt, entriesOf, entryOf, neededAt, AsksTable}
-use Rattle.pages.specs.Ring.{pageAt, positionOf, Paged, Rising, WellRing, ownerIndex, indexAt, owns}
+use Rattle.pages.specs.Table.{blocksOf, placeAt, entriesOf, entryOf, neededAt, AsksTable, entryAt, AsksEntry}
+use Rattle.pages.specs.Ring.{nthPage, positionOf, Paged, Rising, WellRing, ownerIndex, indexAt, owns}
 use Rattle.pages.proofs.Needs.{place-frame, place-block, entries-few, needed-block, needed-place}
 use Rattle.pages.proofs.Owning.{own-means, own-is}
 use Rattle.wellformed.specs.Decision.{Decides}
 use Rattle.wellformed.specs.Parts.{BackedIn, InOrder, PagedIn, AllPaged}
 use Rattle.wellformed.proofs.Deciding.{says-yes, says-no, fails, passes, part-fails}
 
--- the entry of a frame and block
-pub entry-lent : (w : Written) (table : List ℕ) (f b : ℕ) → AsksTable w table → f < w .frames → b < blocksOf w → f * blocksOf w + b < length table
-entry-lent w table f b a h c = omega (arith, mul-le-mul h (le-refl (blocksOf w)), suc-mul f (blocksOf w), a .table-long)
-
-pub entry-small : (lines frames f b : ℕ) → lines ≤ 4096 → frames ≤ 4096 → f < frames → b < lines / 8 → f * (lines / 8) + b < 2097152
-entry-small lines frames f b h few c d = omega (arith, mul-le-mul {n₁ = f} {m₁ = lines / 8} {n₂ = 4095} {m₂ = 512} (omega arith) (omega arith))
-
-pub row-small : (lines frames f : ℕ) → lines ≤ 4096 → frames ≤ 4096 → f < frames → f * (lines / 8) < 2097152
-row-small lines frames f h few c = omega (arith, mul-le-mul {n₁ = f} {m₁ = lines / 8} {n₂ = 4095} {m₂ = 512} (omega arith) (omega arith))
+-- what is asked to read the page of a frame and block
+pub page-asks : (w : Written) (table : List ℕ) (f b : ℕ) → AsksTable w table → f < w .frames → b < blocksOf w → AsksEntry (w .lines) f b (length table)
+page-asks w table f b a h c =
+    record {
+      lines-few = a .lent .lines-few;
+      frame-few = omega (arith, h, a .lent .frames-few);
+      block-few = omega (arith, c, a .lent .lines-few);
+      entry-below = omega (arith, mul-le-mul h (le-refl (blocksOf w)), suc-mul f (blocksOf w), a .table-long);
+    }
 
 -- A page, by its owner.
 module _ (w : Written) (table owners : List ℕ) (p : ℕ) where
@@ -113,8 +113,8 @@ module _ (w : Written) (pages first used : ℕ) (table owners : List ℕ) (i las
       same : (j : ℕ) → j + 1 ≡ i + 1 → i ≡ j
       same j z = omega arith
 
-      owned : (k : ℕ) → k ≤ i → Dec (k ≡ i) → BackedIn w table owners (pageAt pages first k)
-      owned k b (yes z) = subst (BackedIn w table owners) (at ∙ ap (pageAt pages first) (sym z)) (passes r d t)
+      owned : (k : ℕ) → k ≤ i → Dec (k ≡ i) → BackedIn w table owners (nthPage pages first k)
+      owned k b (yes z) = subst (BackedIn w table owners) (at ∙ ap (nthPage pages first) (sym z)) (passes r d t)
       owned k b (no z) = h .so-far .backed k (omega arith)
 
       steps : (k : ℕ) → k + 1 ≤ i → Dec (k + 1 ≡ i) → indexAt (w .frames) (w .omf) pages first owners k ≤ indexAt (w .frames) (w .omf) pages first owners (k + 1)
@@ -162,8 +162,11 @@ module _ (w : Written) (table owners : List ℕ) (pages first used entry : ℕ) 
   wide : block < 512
   wide = omega (arith, block-few, a .lent .lines-few)
 
-  own-entry : entryOf w (placeAt frame block) ≡ entry
-  own-entry = ap₂ (λ (x y : ℕ). x * blocksOf w + y) (place-frame frame block wide) (place-block frame block wide) ∙ div-add-mod' entry (blocksOf w)
+  own-entry : entryOf w (placeAt frame block) ≡ entryAt (w .lines) frame block
+  own-entry = ap₂ (λ (x y : ℕ). entryAt (w .lines) x y) (place-frame frame block wide) (place-block frame block wide)
+
+  pub entry-page : AsksEntry (w .lines) frame block (length table)
+  entry-page = page-asks w table frame block a frame-few block-few
 
   needed-here : neededAt w (placeAt frame block) ≡ needs (effective w (indexOf (w .frames) (w .omf) frame)) block
   needed-here = needed-place w frame block (a .lent .lines-few) block-few
@@ -176,7 +179,7 @@ module _ (w : Written) (table owners : List ℕ) (pages first used entry : ℕ) 
     unfolding PagedIn
     paged-unneeded h = says-yes (λ n. absurd (false≢true (sym (not-true r h) ∙ (e ∙ (sym needed-here ∙ n)))))
 
-    module _ (h : not r ≡ false) (page : ℕ) (p : page ≡ getD table entry 0) (o : Bool) (own : o ≡ owns pages first used owners page (placeAt frame block)) where
+    module _ (h : not r ≡ false) (page : ℕ) (p : page ≡ getD table (entryAt (w .lines) frame block) 0) (o : Bool) (own : o ≡ owns pages first used owners page (placeAt frame block)) where
       at : getD table (entryOf w (placeAt frame block)) 0 ≡ page
       at = ap (λ (x : ℕ). getD table x 0) own-entry ∙ sym p
 

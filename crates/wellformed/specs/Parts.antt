@@ -8,7 +8,7 @@ use Rattle.rules.specs.Line.{Line}
 use Rattle.cache.specs.declared.Cache.{Cache}
 use Rattle.cache.specs.Entries.{lineOf}
 use Rattle.pages.specs.Table.{placesOf, entryOf, neededAt, AsksTable}
-use Rattle.pages.specs.Ring.{pageAt, indexAt, Backed, Paged}
+use Rattle.pages.specs.Ring.{nthPage, indexAt, Backed, Paged}
 use Rattle.versions.specs.Newest.{newestOf}
 use Rattle.written.specs.Bits.{Written, Lent}
 
@@ -18,7 +18,7 @@ BackedIn w table owners p = Backed (neededAt w) (placesOf w) (λ x. getD table (
 
 -- The ring as CHECK tests it: position by position,
 pub record InOrder (w : Written) (pages first used : ℕ) (table owners : List ℕ) : Type 0 where
-  pub backed : (i : ℕ) → i < used → BackedIn w table owners (pageAt pages first i)
+  pub backed : (i : ℕ) → i < used → BackedIn w table owners (nthPage pages first i)
   pub steps : (i : ℕ) → i + 1 < used → indexAt (w .frames) (w .omf) pages first owners i ≤ indexAt (w .frames) (w .omf) pages first owners (i + 1)
 
 -- and place by place.
@@ -52,7 +52,6 @@ pub record AsksBits (w : Written) (live : ℕ) : Type 0 where
 -- and the cache's.
 pub record AsksRecent (w : Written) (pages live : ℕ) (archive pool table : List ℕ) : Type 0 where
   pub asks : AsksTable w table
-  pub frames-few : w .frames ≤ 256
   pub live-some : 0 < live
   pub live-within : live ≤ w .frames
   pub pages-few : pages ≤ 4096

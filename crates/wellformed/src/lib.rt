@@ -1,15 +1,16 @@
 // Whether the parts of a store's storage are well-formed: CHECK's tests. Every function is safe on any contents; what the `requires` ask of
 // numbers and lengths is tested by the store, and only our own crates call them.
 use cache::Cache;
-use frames::Found;
+use numbers::Found;
 use pages::Ring;
+use written::Shape;
 ghost use mathlib.Core.Path.{_≡_};
 ghost use mathlib.Core.Bool.{true};
 ghost use Prim.Native.Nat.{_/_, _%_, _≤_, _<_};
 ghost use lib.ListN.{length};
 ghost use Rattle.rules.specs.Sizing.{settingsOf};
 ghost use Rattle.rules.specs.Figure3.{WellCache};
-ghost use Rattle.written.specs.Bits.{writtenOf};
+ghost use Rattle.written.specs.Bits.{writtenAt};
 ghost use Rattle.written.specs.Steps.{Ordered};
 ghost use Rattle.written.specs.Well.{TagsKnown, OnlyLive, WellBits};
 ghost use Rattle.pages.specs.Table.{placeAt, entriesOf, AsksTable};
@@ -27,7 +28,7 @@ fn tags_known(groups: &[u32], count: u32, tag: u32) -> bool
     let mut at = 0;
     while at < count {
         let group = groups[at as usize];
-        match frames::newest_bit(group, 0, 16) {
+        match numbers::newest_bit(group, 0, 16) {
             Found::At(_) => {
                 if tag < group / 65536 % 256 {
                     return false;
@@ -57,14 +58,14 @@ fn is_ordered(history: &[u16], tag: u32) -> bool
 }
 
 // Whether only live frames have effective bits.
-fn only_live(groups: &[u32], history: &[u16], lines: u32, frames: u32, omf: u32, live: u32) -> bool
-    requires { ⌜ AsksBits (writtenOf lines frames omf (now groups) (now history)) live ⌝ }
-    ensures { λ r. ⌜ Decides r (OnlyLive (writtenOf lines frames omf (now (groups .entry)) (now (history .entry))) live) ⌝ }
+fn only_live(groups: &[u32], history: &[u16], shape: Shape, live: u32) -> bool
+    requires { ⌜ AsksBits (writtenAt shape (now groups) (now history)) live ⌝ }
+    ensures { λ r. ⌜ Decides r (OnlyLive (writtenAt shape (now (groups .entry)) (now (history .entry))) live) ⌝ }
 {
-    let blocks = lines / 8;
+    let blocks = shape.lines / 8;
     let mut block = 0;
     while block < blocks {
-        if written::block_has(groups, history, lines, frames, omf, block, live, frames) {
+        if written::block_has(groups, history, shape, block, live, shape.frames) {
             return false;
         }
         block = block + 1;
@@ -73,17 +74,9 @@ fn only_live(groups: &[u32], history: &[u16], lines: u32, frames: u32, omf: u32,
 }
 
 // Whether the written bits and the history are well-formed.
-pub fn bits(
-    groups: &[u32],
-    history: &[u16],
-    lines: u32,
-    frames: u32,
-    omf: u32,
-    tag: u32,
-    live: u32,
-) -> bool
-    requires { ⌜ AsksBits (writtenOf lines frames omf (now groups) (now history)) live ⌝ }
-    ensures { λ r. ⌜ Decides r (WellBits (writtenOf lines frames omf (now (groups .entry)) (now (history .entry))) tag live) ⌝ }
+pub fn bits(groups: &[u32], history: &[u16], shape: Shape, tag: u32, live: u32) -> bool
+    requires { ⌜ AsksBits (writtenAt shape (now groups) (now history)) live ⌝ }
+    ensures { λ r. ⌜ Decides r (WellBits (writtenAt shape (now (groups .entry)) (now (history .entry))) tag live) ⌝ }
 {
     if 255 < tag {
         return false;
@@ -94,10 +87,10 @@ pub fn bits(
     if !is_ordered(history, tag) {
         return false;
     }
-    if !tags_known(groups, frames / 16 * lines, tag) {
+    if !tags_known(groups, shape.frames / 16 * shape.lines, tag) {
         return false;
     }
-    only_live(groups, history, lines, frames, omf, live)
+    only_live(groups, history, shape, live)
 }
 
 // Whether a page's owner is a needed place for which the table has the page.
@@ -109,48 +102,39 @@ fn is_backed(
     ring: Ring,
     page: u32,
 ) -> bool
-    requires { ⌜ (AsksTable (writtenOf (ring .lines) (ring .frames) (ring .omf) (now groups) (now history)) (now table)) × (page < length (now owners)) ⌝ }
-    ensures { λ r. ⌜ Decides r (BackedIn (writtenOf (ring .lines) (ring .frames) (ring .omf) (now (groups .entry)) (now (history .entry))) (now (table .entry)) (now (owners .entry)) page) ⌝ }
+    requires { ⌜ (AsksTable (writtenAt (ring .shape) (now groups) (now history)) (now table)) × (page < length (now owners)) ⌝ }
+    ensures { λ r. ⌜ Decides r (BackedIn (writtenAt (ring .shape) (now (groups .entry)) (now (history .entry))) (now (table .entry)) (now (owners .entry)) page) ⌝ }
 {
-    let blocks = ring.lines / 8;
+    let shape = ring.shape;
     let owner = owners[page as usize];
     let frame = owner / 512;
     let block = owner % 512;
-    if ring.frames <= frame {
+    if shape.frames <= frame {
         return false;
     }
-    if blocks <= block {
+    if shape.lines / 8 <= block {
         return false;
     }
-    let at = frame * blocks + block;
-    if frames::wide(table[at as usize]) != page {
+    if pages::table::page_at(table, shape, frame, block) != page {
         return false;
     }
-    written::needed(
-        groups,
-        history,
-        ring.lines,
-        ring.frames,
-        ring.omf,
-        frame,
-        block,
-    )
+    written::needed(groups, history, shape, frame, block)
 }
 
 // Whether every page of the segment is backed, and the owners' indexes never fall along it.
 fn in_order(groups: &[u32], history: &[u16], table: &[u16], owners: &[u32], ring: Ring) -> bool
-    requires { ⌜ (AsksTable (writtenOf (ring .lines) (ring .frames) (ring .omf) (now groups) (now history)) (now table)) × (AsksRing (ring .pages) (ring .first) (ring .used) (ring .frames) (ring .omf) (length (now owners))) ⌝ }
-    ensures { λ r. ⌜ Decides r (InOrder (writtenOf (ring .lines) (ring .frames) (ring .omf) (now (groups .entry)) (now (history .entry))) (ring .pages) (ring .first) (ring .used) (now (table .entry)) (now (owners .entry))) ⌝ }
+    requires { ⌜ (AsksTable (writtenAt (ring .shape) (now groups) (now history)) (now table)) × (AsksRing (ring .pages) (ring .first) (ring .used) (ring .shape .frames) (ring .shape .omf) (length (now owners))) ⌝ }
+    ensures { λ r. ⌜ Decides r (InOrder (writtenAt (ring .shape) (now (groups .entry)) (now (history .entry))) (ring .pages) (ring .first) (ring .used) (now (table .entry)) (now (owners .entry))) ⌝ }
 {
     let used = ring.used;
     let mut i = 0;
     let mut last = 0;
     while i < used {
-        let page = frames::frame_at(i, ring.first, ring.pages);
+        let page = frames::frame_at(ring.pages, ring.first, i);
         if !is_backed(groups, history, table, owners, ring, page) {
             return false;
         }
-        let index = pages::segment::owner_index(ring, owners[page as usize]);
+        let index = pages::segment::owner_index(ring.shape, owners[page as usize]);
         if index < last {
             return false;
         }
@@ -169,33 +153,27 @@ fn is_paged(
     ring: Ring,
     entry: u32,
 ) -> bool
-    requires { ⌜ (AsksTable (writtenOf (ring .lines) (ring .frames) (ring .omf) (now groups) (now history)) (now table)) × (AsksRing (ring .pages) (ring .first) (ring .used) (ring .frames) (ring .omf) (length (now owners))) × (entry < entriesOf (writtenOf (ring .lines) (ring .frames) (ring .omf) (now groups) (now history))) ⌝ }
-    ensures { λ r. ⌜ Decides r (PagedIn (writtenOf (ring .lines) (ring .frames) (ring .omf) (now (groups .entry)) (now (history .entry))) (ring .pages) (ring .first) (ring .used) (now (table .entry)) (now (owners .entry)) (placeAt (entry / (ring .lines / 8)) (entry % (ring .lines / 8)))) ⌝ }
+    requires { ⌜ (AsksTable (writtenAt (ring .shape) (now groups) (now history)) (now table)) × (AsksRing (ring .pages) (ring .first) (ring .used) (ring .shape .frames) (ring .shape .omf) (length (now owners))) × (entry < entriesOf (writtenAt (ring .shape) (now groups) (now history))) ⌝ }
+    ensures { λ r. ⌜ Decides r (PagedIn (writtenAt (ring .shape) (now (groups .entry)) (now (history .entry))) (ring .pages) (ring .first) (ring .used) (now (table .entry)) (now (owners .entry)) (placeAt (entry / (ring .shape .lines / 8)) (entry % (ring .shape .lines / 8)))) ⌝ }
 {
-    let blocks = ring.lines / 8;
+    let shape = ring.shape;
+    let blocks = shape.lines / 8;
     let frame = entry / blocks;
     let block = entry % blocks;
-    if !written::needed(
-        groups,
-        history,
-        ring.lines,
-        ring.frames,
-        ring.omf,
-        frame,
-        block,
-    ) {
+    if !written::needed(groups, history, shape, frame, block) {
         return true;
     }
-    let page = frames::wide(table[entry as usize]);
+    let page = pages::table::page_at(table, shape, frame, block);
     pages::segment::is_own(owners, ring, page, frame * 512 + block)
 }
 
 // Whether every needed place has its page.
 fn all_paged(groups: &[u32], history: &[u16], table: &[u16], owners: &[u32], ring: Ring) -> bool
-    requires { ⌜ (AsksTable (writtenOf (ring .lines) (ring .frames) (ring .omf) (now groups) (now history)) (now table)) × (AsksRing (ring .pages) (ring .first) (ring .used) (ring .frames) (ring .omf) (length (now owners))) ⌝ }
-    ensures { λ r. ⌜ Decides r (AllPaged (writtenOf (ring .lines) (ring .frames) (ring .omf) (now (groups .entry)) (now (history .entry))) (ring .pages) (ring .first) (ring .used) (now (table .entry)) (now (owners .entry))) ⌝ }
+    requires { ⌜ (AsksTable (writtenAt (ring .shape) (now groups) (now history)) (now table)) × (AsksRing (ring .pages) (ring .first) (ring .used) (ring .shape .frames) (ring .shape .omf) (length (now owners))) ⌝ }
+    ensures { λ r. ⌜ Decides r (AllPaged (writtenAt (ring .shape) (now (groups .entry)) (now (history .entry))) (ring .pages) (ring .first) (ring .used) (now (table .entry)) (now (owners .entry))) ⌝ }
 {
-    let entries = ring.frames * (ring.lines / 8);
+    let shape = ring.shape;
+    let entries = shape.frames * (shape.lines / 8);
     let mut entry = 0;
     while entry < entries {
         if !is_paged(groups, history, table, owners, ring, entry) {
@@ -208,8 +186,8 @@ fn all_paged(groups: &[u32], history: &[u16], table: &[u16], owners: &[u32], rin
 
 // Whether the needed pages are one segment of the pool's circle, in the order of their frames.
 pub fn ring(groups: &[u32], history: &[u16], table: &[u16], owners: &[u32], ring: Ring) -> bool
-    requires { ⌜ (AsksTable (writtenOf (ring .lines) (ring .frames) (ring .omf) (now groups) (now history)) (now table)) × (ring .pages ≤ 4096) × (ring .pages ≤ length (now owners)) ⌝ }
-    ensures { λ r. ⌜ Decides r (WellRing (writtenOf (ring .lines) (ring .frames) (ring .omf) (now (groups .entry)) (now (history .entry))) (ring .pages) (ring .first) (ring .used) (now (table .entry)) (now (owners .entry))) ⌝ }
+    requires { ⌜ (AsksTable (writtenAt (ring .shape) (now groups) (now history)) (now table)) × (ring .pages ≤ 4096) × (ring .pages ≤ length (now owners)) ⌝ }
+    ensures { λ r. ⌜ Decides r (WellRing (writtenAt (ring .shape) (now (groups .entry)) (now (history .entry))) (ring .pages) (ring .first) (ring .used) (now (table .entry)) (now (owners .entry))) ⌝ }
 {
     if ring.pages <= ring.first {
         return false;
@@ -299,19 +277,17 @@ fn is_recent(
     groups: &[u32],
     table: &[u16],
     history: &[u16],
-    lines: u32,
-    frames: u32,
-    omf: u32,
+    shape: Shape,
     pages: u32,
     live: u32,
     line: u32,
     frame: u16,
     content: [u8; 16],
 ) -> bool
-    requires { ⌜ AsksRecent (writtenOf lines frames omf (now groups) (now history)) pages live (now archive) (now pool) (now table) ⌝ }
-    ensures { λ r. ⌜ Decides r (RecentIn (writtenOf lines frames omf (now (groups .entry)) (now (history .entry))) pages live (now (archive .entry)) (now (pool .entry)) (now (table .entry)) line frame content) ⌝ }
+    requires { ⌜ AsksRecent (writtenAt shape (now groups) (now history)) pages live (now archive) (now pool) (now table) ⌝ }
+    ensures { λ r. ⌜ Decides r (RecentIn (writtenAt shape (now (groups .entry)) (now (history .entry))) pages live (now (archive .entry)) (now (pool .entry)) (now (table .entry)) line frame content) ⌝ }
 {
-    if lines <= line {
+    if shape.lines <= line {
         return false;
     }
     let newest = versions::newest(
@@ -320,9 +296,7 @@ fn is_recent(
         groups,
         table,
         history,
-        lines,
-        frames,
-        omf,
+        shape,
         pages,
         live,
         line,
@@ -342,14 +316,12 @@ pub fn coherent(
     groups: &[u32],
     table: &[u16],
     history: &[u16],
-    lines: u32,
-    frames: u32,
-    omf: u32,
+    shape: Shape,
     pages: u32,
     live: u32,
 ) -> bool
-    requires { ⌜ AsksRecent (writtenOf lines frames omf (now groups) (now history)) pages live (now archive) (now pool) (now table) ⌝ }
-    ensures { λ r. ⌜ Decides r (All (RecentIn (writtenOf lines frames omf (now (groups .entry)) (now (history .entry))) pages live (now (archive .entry)) (now (pool .entry)) (now (table .entry))) cache) ⌝ }
+    requires { ⌜ AsksRecent (writtenAt shape (now groups) (now history)) pages live (now archive) (now pool) (now table) ⌝ }
+    ensures { λ r. ⌜ Decides r (All (RecentIn (writtenAt shape (now (groups .entry)) (now (history .entry))) pages live (now (archive .entry)) (now (pool .entry)) (now (table .entry))) cache) ⌝ }
     ensures sized { λ _. ⌜ Sized cache ⌝ }
 {
     let held = cache.lines;
@@ -366,9 +338,7 @@ pub fn coherent(
                 groups,
                 table,
                 history,
-                lines,
-                frames,
-                omf,
+                shape,
                 pages,
                 live,
                 held[at],
@@ -390,7 +360,7 @@ pub fn bytes(list: &[u8], count: u32)
 {
     let mut i = 0;
     while i < count {
-        pages::lines::wide(list[i as usize]);
+        numbers::widen_u8(list[i as usize]);
         i = i + 1;
     }
 }

@@ -10,12 +10,12 @@ use borrow.Author.Tests.{lt-ltb, le-ltb}
 use lib.Dec.{ltb}
 use lib.ListN.{length, getD}
 use Rattle.frames.specs.Circle.{frameAt, indexOf}
-use Rattle.frames.specs.Digits.{bit}
+use Rattle.numbers.specs.Digits.{bit}
 use Rattle.frames.proofs.Circle.{frame-below, index-frame, frame-index}
 use Rattle.written.specs.Bits.{Written, writtenOf, Lent, placeOf, tagOf, boundOf, standing, effective}
 use Rattle.written.specs.Steps.{Ordered, lowerBound, lowered}
 use Rattle.written.specs.Well.{WellBits}
-use Rattle.frames.proofs.Lists.{rewrite-at, rewrite-length}
+use Rattle.lists.proofs.Lists.{rewrite-at, rewrite-length}
 use Rattle.written.proofs.Areas.{lent-kept}
 use Rattle.written.proofs.Sweeping.{lower-open, lower-else}
 

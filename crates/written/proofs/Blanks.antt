@@ -11,10 +11,10 @@ use lib.ListN.{length, getD}
 use Rattle.rules.specs.Seen.{needs}
 use Rattle.rules.proofs.Count.{any-none}
 use Rattle.frames.specs.Circle.{indexOf, frameAt}
-use Rattle.frames.specs.Digits.{digit}
+use Rattle.numbers.specs.Digits.{digit}
 use Rattle.frames.proofs.Circle.{index-below, frame-index}
-use Rattle.frames.proofs.Digits.{bit-none}
-use Rattle.written.specs.Bits.{Written, AsksBlock, AsksSet, placeOf, effective, sumFrom, setIn}
+use Rattle.numbers.proofs.Digits.{bit-none}
+use Rattle.written.specs.Bits.{Written, Near, AsksBlock, AsksSet, placeOf, effective, sumFrom, setIn}
 use Rattle.written.proofs.Areas.{area-below}
 use Rattle.written.proofs.Runs.{standing-none}
 
@@ -54,12 +54,23 @@ module _ (f : ℕ → ℕ) (groups : List ℕ) (at : ℕ) where
       go (yes q) ih = ap (λ (x : ℕ). f (getD groups (at + x) 0)) q ∙ omega arith
       go (no d) ih = ih (omega arith) (omega arith)
 
--- one more group, in the form in which the code has its number
-pub digits-more : (groups : List ℕ) (at p here count n sum : ℕ) → Added (λ g. digit g p) groups at count n sum → n < count → (here ≡ 2 ^ p) × (0 < here)
-    → Added (λ g. digit g p) groups at count (n + 1) (sum + getD groups (at + n) 0 / here % 2)
+-- the groups of a block's lines
+pub set-near : (lines f block long now n : ℕ) → AsksSet lines f block long → now ≡ long → n < 8
+    → Near lines (f / 16) (block * 8 + n) × (placeOf lines (f / 16) (block * 8 + n) < now)
+set-near lines f block long now n a e b = (
+  record { lines-few = a .near .lines-few; area-few = a .near .area-few; line-few = omega (arith, a .near .line-few) },
+  omega (arith, a .within),
+)
+
+-- one more of them, in the form in which the code has its number
+pub digits-more : (groups : List ℕ) (lines f block here n sum g : ℕ) → Added (λ g. digit g (f % 16)) groups (placeOf lines (f / 16) (block * 8)) 8 n sum → n < 8
+    → (here ≡ 2 ^ (f % 16)) × (0 < here) → g ≡ getD groups (placeOf lines (f / 16) (block * 8 + n)) 0
+    → Added (λ g. digit g (f % 16)) groups (placeOf lines (f / 16) (block * 8)) 8 (n + 1) (sum + g / here % 2)
 unfolding digit
-digits-more groups at p here count n sum h b e =
-    added-more (λ g. digit g p) groups at count n sum _ h b (omega arith) (ap (λ (x : ℕ). getD groups (at + n) 0 / x % 2) (e .0))
+digits-more groups lines f block here n sum g h b e d =
+    let place : placeOf lines (f / 16) (block * 8 + n) ≡ placeOf lines (f / 16) (block * 8) + n = omega arith in
+    added-more (λ g. digit g (f % 16)) groups (placeOf lines (f / 16) (block * 8)) 8 n sum _ h b (omega arith)
+    (ap₂ (λ (y x : ℕ). y / x % 2) (d ∙ ap (λ (i : ℕ). getD groups i 0) place) (e .0))
 
 -- the groups of neighbouring lines of an area lie in the lent list
 span-within : (lines frames z first count long : ℕ) → frames % 16 ≡ 0 → z < frames → first + count ≤ lines → frames / 16 * lines ≤ long
@@ -68,11 +79,10 @@ span-within lines frames z first count long by b c enough =
     omega (arith, mul-le-mul-right lines (area-below frames z by b), suc-mul (z / 16) lines)
 
 -- A block's bits of one frame, counted,
-pub set-end : (lines f block : ℕ) (groups : List ℕ) (at n sum : ℕ) → at ≡ placeOf lines (f / 16) (block * 8)
-    → Added (λ g. digit g (f % 16)) groups at 8 n sum → 8 ≤ n → sum ≡ setIn lines groups f block
+pub set-end : (lines f block : ℕ) (groups : List ℕ) (n sum : ℕ)
+    → Added (λ g. digit g (f % 16)) groups (placeOf lines (f / 16) (block * 8)) 8 n sum → 8 ≤ n → sum ≡ setIn lines groups f block
 unfolding setIn
-set-end lines f block groups at n sum e h b =
-    added-end (λ g. digit g (f % 16)) groups at 8 n sum h b ∙ ap (λ (x : ℕ). sumFrom (λ g. digit g (f % 16)) groups x 8) e
+set-end lines f block groups n sum h b = added-end (λ g. digit g (f % 16)) groups (placeOf lines (f / 16) (block * 8)) 8 n sum h b
 
 -- and what follows.
 module _ (w : Written) (block f : ℕ) (a : AsksBlock w block (w .frames) × (f < w .frames)) where

@@ -12,10 +12,10 @@ use Rattle.rules.specs.Seen.{needs}
 use Rattle.rules.proofs.Count.{any-same, any-true, any-none, any-false, any-found}
 use Rattle.rules.proofs.Tests.{both-true}
 use Rattle.frames.specs.Circle.{frameAt}
-use Rattle.frames.specs.Digits.{bit, newestBit}
-use Rattle.frames.specs.declared.Found.{Found}
-use Rattle.frames.specs.declared.Found.the-variants.{At, Nothing}
-use Rattle.frames.proofs.Search.{greatest-nothing, greatest-found}
+use Rattle.numbers.specs.Digits.{bit, newestBit}
+use Rattle.numbers.specs.declared.Found.{Found}
+use Rattle.numbers.specs.declared.Found.the-variants.{At, Nothing}
+use Rattle.numbers.proofs.Search.{greatest-nothing, greatest-found}
 use Rattle.written.specs.Bits.{Written, Asks, placeOf, boundOf, standing, effective, anyFrom, standsIn, runHas, blockHas, upOf}
 use Rattle.written.proofs.Areas.{frame-up, up-area, up-place}
 use Rattle.written.proofs.Runs.{none-of, both-of, none-stands}

@@ -9,10 +9,10 @@ use Rattle.rules.specs.Call.{Place}
 use Rattle.rules.specs.Call.Place.{in-frame, in-archive}
 use Rattle.rules.specs.Seen.{further}
 use Rattle.rules.specs.Figure2.{versionIn, foundIn}
-use Rattle.frames.specs.Search.{greatest}
-use Rattle.frames.specs.declared.Found.{Found}
-use Rattle.frames.specs.declared.Found.the-variants.{At, Nothing}
-use Rattle.frames.proofs.Search.{greatest-found}
+use Rattle.numbers.specs.Search.{greatest}
+use Rattle.numbers.specs.declared.Found.{Found}
+use Rattle.numbers.specs.declared.Found.the-variants.{At, Nothing}
+use Rattle.numbers.proofs.Search.{greatest-found}
 
 -- what a search among n live frames finds, as an origin and as a version
 unfoldable pub backOf : ℕ → Found → Place

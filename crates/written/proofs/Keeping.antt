@@ -10,12 +10,12 @@ use lib.Dec.{eqb}
 use lib.ListN.{length, getD, set, length-set}
 use lib.Seq.{getD-set-same, getD-set-other}
 use Rattle.frames.specs.Circle.{frameAt}
-use Rattle.frames.specs.Digits.{bit}
-use Rattle.frames.proofs.Digits.{bit-none, digit-past, set-small}
+use Rattle.numbers.specs.Digits.{bit}
+use Rattle.numbers.proofs.Digits.{bit-none, digit-past, set-small}
 use Rattle.written.specs.Bits.{Written, writtenOf, Lent, Asks, placeOf, tagOf, effective, boundOf}
 use Rattle.written.specs.Steps.{regrouped, withWritten, blanked}
 use Rattle.written.specs.Well.{WellBits}
-use Rattle.frames.proofs.Lists.{rewrite-at, rewrite-length}
+use Rattle.lists.proofs.Lists.{rewrite-at, rewrite-length}
 use Rattle.written.proofs.Areas.{lent-kept}
 use Rattle.written.proofs.Runs.{standing-none}
 use Rattle.written.proofs.Windows.{window-small}

@@ -11,12 +11,12 @@ use lib.Dec.{ltb, leb·zero}
 use lib.ListN.{length, getD, set, length-set}
 use lib.Seq.{getD-set-same, getD-set-other}
 use Rattle.frames.specs.Circle.{frameAt, indexOf}
-use Rattle.frames.specs.Digits.{bit}
+use Rattle.numbers.specs.Digits.{bit}
 use Rattle.frames.proofs.Circle.{frame-below, index-frame}
 use Rattle.written.specs.Bits.{Written, writtenOf, Lent, placeOf, tagOf, boundOf, standing, effective}
 use Rattle.written.specs.Steps.{maskedOf, Ordered, entered, Entered, swept, nextTag, RolledBack}
 use Rattle.written.specs.Well.{WellBits}
-use Rattle.frames.proofs.Lists.{rewrite-at, rewrite-length}
+use Rattle.lists.proofs.Lists.{rewrite-at, rewrite-length}
 use Rattle.written.proofs.Areas.{place-below, area-below, lent-kept}
 use Rattle.written.proofs.Windows.{window-small, window-bit}
 

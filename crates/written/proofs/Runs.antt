@@ -9,12 +9,12 @@ use lib.Dec.{leb, ltb}
 use lib.ListN.{getD}
 use Rattle.rules.proofs.Tests.{both-true}
 use Rattle.frames.specs.Circle.{frameAt}
-use Rattle.frames.specs.Digits.{bit, newestBit}
-use Rattle.frames.specs.Search.{greatest}
-use Rattle.frames.specs.declared.Found.{Found}
-use Rattle.frames.specs.declared.Found.the-variants.{At, Nothing}
-use Rattle.frames.proofs.Digits.{bit-none, digit-below, digit-past}
-use Rattle.frames.proofs.Search.{greatest-none, greatest-at, greatest-same, greatest-nothing, Greatest, greatest-found, greatest-part-at, greatest-part-none}
+use Rattle.numbers.specs.Digits.{bit, newestBit}
+use Rattle.numbers.specs.Search.{greatest}
+use Rattle.numbers.specs.declared.Found.{Found}
+use Rattle.numbers.specs.declared.Found.the-variants.{At, Nothing}
+use Rattle.numbers.proofs.Digits.{bit-none, digit-below, digit-past}
+use Rattle.numbers.proofs.Search.{greatest-none, greatest-at, greatest-same, greatest-nothing, Greatest, greatest-found, greatest-part-at, greatest-part-none}
 use Rattle.written.specs.Bits.{Written, Asks, placeOf, boundOf, standing, effective, newestRun, newestInArea, newestFrom, downOf}
 use Rattle.written.proofs.Areas.{frame-down, down-area, down-place}
 

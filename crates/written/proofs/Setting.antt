@@ -1,5 +1,6 @@
 -- Setting a written bit: what the code has is the definition, and of all effective bits just the new one is added. Assumes nothing.
 use mathlib.Core.Path.{_≡_, refl, sym, _∙_, ap, ap₂}
+use mathlib.Core.List.{List}
 use mathlib.Core.Bool.{Bool, true, false, _&&_, _||_, and-true, or-false, or-true}
 use mathlib.Core.Logic.{_≢_}
 use Prim.Native.Nat.{ℕ, _+_, _*_, _/_, _%_, _<_}
@@ -11,9 +12,9 @@ use lib.Dec.{eqb, ltb, leb·zero}
 use lib.ListN.{length, getD, set}
 use lib.Seq.{getD-set-same, getD-set-other}
 use Rattle.frames.specs.Circle.{frameAt, indexOf}
-use Rattle.frames.specs.Digits.{bit, setAt}
+use Rattle.numbers.specs.Digits.{bit, setAt}
 use Rattle.frames.proofs.Circle.{frame-below, index-frame}
-use Rattle.frames.proofs.Digits.{digit-below, digit-bit, bit-one, set-under, set-own, set-over, set-small}
+use Rattle.numbers.proofs.Digits.{digit-below, digit-bit, bit-one, set-under, set-own, set-over, set-small}
 use Rattle.written.specs.Bits.{Written, writtenOf, Asks, placeOf, tagOf, tagged, boundOf, standing, effective, windowOf}
 use Rattle.written.specs.Steps.{AsksWindow, regrouped, withWritten}
 use Rattle.written.proofs.Areas.{asks-near, area-below}
@@ -33,11 +34,11 @@ module _ (w : Written) (l i : ℕ) (a : Asks w l i) where
         end-few = omega arith;
       }
 
-pub set-told : (w : Written) (l i tag f at b r : ℕ) → f ≡ frameAt (w .frames) (w .omf) i → at ≡ placeOf (w .lines) (f / 16) l
-    → (b ≡ boundOf (w .history) (getD (w .groups) at 0)) × (b < 65536) → r ≡ regrouped (w .frames) (w .omf) f b tag (getD (w .groups) at 0)
-    → set (w .groups) at r ≡ withWritten w tag l i
+pub set-told : (w : Written) (l i tag f g b r : ℕ) (after : List ℕ) → f ≡ frameAt (w .frames) (w .omf) i → g ≡ getD (w .groups) (placeOf (w .lines) (f / 16) l) 0
+    → (b ≡ boundOf (w .history) g) × (b < 65536) → r ≡ regrouped (w .frames) (w .omf) f b tag g → after ≡ set (w .groups) (placeOf (w .lines) (f / 16) l) r
+    → after ≡ withWritten w tag l i
 unfolding withWritten
-set-told w l i tag f at b r ef ea eb er = cc
+set-told w l i tag f g b r after ef eg eb er e = cc
 
 -- The parts of a group with its tag.
 pub tagged-tag : (tag b : ℕ) → tag < 256 → b < 65536 → tagOf (tagged tag b) ≡ tag

@@ -9,10 +9,10 @@ use borrow.Author.Tests.{eq-eqb, ne-eqb, lt-ltb, le-ltb}
 use borrow.Rule.Slice.PartMut.{midOf, putMid}
 use lib.Arith.{digits-div}
 use lib.ListN.{length, getD, set}
-use Rattle.frames.specs.Lists.{rewrite}
+use Rattle.lists.specs.Lists.{rewrite}
 use Rattle.written.specs.Bits.{Written, writtenOf, boundOf, firstIndex, cutOf, windowOf}
 use Rattle.written.specs.Steps.{maskedOf, Entered, entered, swept, lowerBound, nextTag, RolledBack}
-use Rattle.frames.proofs.Lists.{Rewritten, rewrite-start, rewrite-end, rewrite-length, rewrite-past, rewrite-part}
+use Rattle.lists.proofs.Lists.{Rewritten, rewrite-start, rewrite-end, rewrite-length, rewrite-past, rewrite-part}
 use Rattle.written.proofs.Windows.{cut-none}
 
 -- the groups are few

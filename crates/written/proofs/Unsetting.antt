@@ -11,11 +11,10 @@ use native.Mathlib.Omega.{arith}
 use borrow.Author.Tests.{not-true, not-false}
 use lib.Dec.{ltb}
 use lib.ListN.{length, getD, set, drop, length-set}
-use lib.Seq.{getD-set-same, getD-set-other}
+use lib.Seq.{getD-set-same, getD-set-other, drop-set-lt}
 use Rattle.frames.specs.Circle.{frameAt}
-use Rattle.frames.specs.Digits.{digit, bit, unsetAt}
-use Rattle.frames.proofs.Digits.{digit-below, digit-bit, bit-none, unset-under, unset-own, unset-over, unset-le}
-use Rattle.frames.proofs.Lists.{drop-set}
+use Rattle.numbers.specs.Digits.{digit, bit, unsetAt}
+use Rattle.numbers.proofs.Digits.{digit-below, digit-bit, bit-none, unset-under, unset-own, unset-over, unset-le}
 use Rattle.written.specs.Bits.{Written, placeOf, tagOf, boundOf, standing, effective}
 use Rattle.written.specs.Steps.{unsetIn, clearedFrom, clearedBlock}
 use Rattle.written.proofs.Setting.{tagged-bit}
@@ -57,7 +56,7 @@ module _ (f at : ℕ) (groups : List ℕ) where
   unfolding clearedFrom
   cleared-past zero m h = refl
   cleared-past (suc n) m h =
-      drop-set (clearedFrom f at n groups) (at + n) m (unsetIn f (getD groups (at + n) 0)) (omega arith) ∙ cleared-past n m (omega arith)
+      drop-set-lt m (clearedFrom f at n groups) (at + n) (unsetIn f (getD groups (at + n) 0)) (omega arith) ∙ cleared-past n m (omega arith)
 
   pub cleared-outside : (n p : ℕ) → (p < at) ⊎ (at + n ≤ p) → getD (clearedFrom f at n groups) p 0 ≡ getD groups p 0
   unfolding clearedFrom
@@ -97,24 +96,25 @@ module _ (f at : ℕ) (groups : List ℕ) where
   unfolding clearedFrom
   clearing-start = record { few = omega arith; long = refl; same = refl }
 
-  pub clearing-next : (n : ℕ) (now : List ℕ) (v : ℕ) → Clearing n now → n < 8 → v ≡ unsetIn f (getD now (at + n) 0) → Clearing (n + 1) (set now (at + n) v)
+  pub clearing-next : (n : ℕ) (now after : List ℕ) (place g v : ℕ) → Clearing n now → n < 8 → place ≡ at + n → g ≡ getD now place 0 → v ≡ unsetIn f g
+      → after ≡ set now place v → Clearing (n + 1) after
   unfolding clearedFrom
-  clearing-next n now v c b e =
+  clearing-next n now after place g v c b p d e a =
       record {
         few = omega arith;
-        long = length-set now (at + n) v ∙ c .long;
+        long = ap length a ∙ (length-set now place v ∙ c .long);
         same =
-            (λ i. set (c .same i) (at + n) (value i))
-            ∙ ap (λ (k : ℕ). clearedFrom f at k groups) (sym (add-one n));
+            a ∙ ((λ i. set (c .same i) (p i) (value i))
+            ∙ ap (λ (k : ℕ). clearedFrom f at k groups) (sym (add-one n)));
       }
     where
       value : v ≡ unsetIn f (getD groups (at + n) 0)
-      value = e ∙ ap (unsetIn f) (ap (λ (xs : List ℕ). getD xs (at + n) 0) (c .same) ∙ cleared-outside n (at + n) (inr (omega arith)))
+      value = e ∙ ap (unsetIn f) (d ∙ (λ i. getD (c .same i) (p i) 0) ∙ cleared-outside n (at + n) (inr (omega arith)))
 
-  pub clearing-end : (n : ℕ) (now : List ℕ) → Clearing n now → 8 ≤ n → (place : ℕ) → at ≡ place → now ≡ clearedFrom f place 8 groups
-  clearing-end n now c h place e =
+  pub clearing-end : (n : ℕ) (now : List ℕ) → Clearing n now → 8 ≤ n → now ≡ clearedFrom f at 8 groups
+  clearing-end n now c h =
       let all : n ≡ 8 = omega (arith, c .few) in
-      c .same ∙ (λ i. clearedFrom f (e i) (all i) groups)
+      c .same ∙ ap (λ (k : ℕ). clearedFrom f at k groups) all
 
 -- One effective bit, in the form in which the code has it.
 module _ (w : Written) (l i f g : ℕ) (at-frame : f ≡ frameAt (w .frames) (w .omf) i) (at-group : g ≡ getD (w .groups) (placeOf (w .lines) (f / 16) l) 0) where

@@ -14,9 +14,9 @@ use mir.Syntax.{w32}
 use mir.Val.{Fits}
 use Rattle.rules.proofs.Circle.{index-reaches}
 use Rattle.frames.specs.Circle.{indexOf}
-use Rattle.frames.specs.Digits.{digit, bit, rangeOf}
+use Rattle.numbers.specs.Digits.{digit, bit, rangeOf}
 use Rattle.frames.proofs.Circle.{index-below}
-use Rattle.frames.proofs.Digits.{digit-below, digit-from, digit-bit, bit-none, range-le, range-lt, range-under, range-over, range-in}
+use Rattle.numbers.proofs.Digits.{digit-below, digit-from, digit-bit, bit-none, range-le, range-lt, range-under, range-over, range-in}
 use Rattle.written.specs.Bits.{firstIndex, beforeWrap, afterWrap, cutOf, windowOf}
 
 -- two numbers with their digits on either side of a place add up digit by digit

@@ -7,9 +7,10 @@ use lib.Dec.{leb, ltb}
 use lib.ListN.{length, getD}
 use Rattle.rules.specs.Seen.{any}
 use Rattle.frames.specs.Circle.{indexOf, frameAt}
-use Rattle.frames.specs.Digits.{digit, bit, rangeOf}
-use Rattle.frames.specs.Search.{greatest}
-use Rattle.frames.specs.declared.Found.{Found}
+use Rattle.numbers.specs.Digits.{digit, bit, rangeOf}
+use Rattle.numbers.specs.Search.{greatest}
+use Rattle.numbers.specs.declared.Found.{Found}
+use Rattle.written.specs.declared.Shape.{Shape}
 
 -- The lent lists with what places them: the lines, the circle of frames and OMF.
 pub record Written : Type 0 where
@@ -22,6 +23,9 @@ pub record Written : Type 0 where
 abbrev pub writtenOf : (lines frames omf : ℕ) → (groups history : List ℕ) → Written
 writtenOf lines frames omf groups history =
     record { lines = lines; frames = frames; omf = omf; groups = groups; history = history }
+
+abbrev pub writtenAt : Shape → (groups history : List ℕ) → Written
+writtenAt shape groups history = writtenOf (shape .lines) (shape .frames) (shape .omf) groups history
 
 -- "16 frames in a row form a working area." "Sixteen written bits of one line are kept together": the place of a group, area after area.
 abbrev pub placeOf : (lines area line : ℕ) → ℕ
@@ -145,5 +149,5 @@ pub record AsksBlock (w : Written) (block end : ℕ) : Type 0 where
 
 -- What counting a block's bits of a frame asks.
 pub record AsksSet (lines frame block long : ℕ) : Type 0 where
-  pub near : Near lines (frame / 16) (block * 8)
+  pub near : Near lines (frame / 16) (block * 8 + 7)
   pub within : placeOf lines (frame / 16) (block * 8) + 8 ≤ long

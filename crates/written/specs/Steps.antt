@@ -6,8 +6,8 @@ use mathlib.Core.List.{List}
 use lib.Dec.{eqb, ltb}
 use lib.ListN.{length, getD, set}
 use Rattle.frames.specs.Circle.{frameAt}
-use Rattle.frames.specs.Digits.{setAt, unsetAt}
-use Rattle.frames.specs.Lists.{rewrite}
+use Rattle.numbers.specs.Digits.{setAt, unsetAt}
+use Rattle.lists.specs.Lists.{rewrite}
 use Rattle.written.specs.Bits.{Written, writtenOf, placeOf, tagged, boundOf, windowOf}
 
 -- The bits of a group that stand.

@@ -4,7 +4,7 @@ use mathlib.Core.Path.{_≡_}
 use mathlib.Core.Bool.{true, false}
 use mathlib.Core.List.{List}
 use lib.ListN.{getD}
-use Rattle.frames.specs.Digits.{bit}
+use Rattle.numbers.specs.Digits.{bit}
 use Rattle.written.specs.Bits.{Written, Lent, tagOf, effective}
 use Rattle.written.specs.Steps.{Ordered}
 

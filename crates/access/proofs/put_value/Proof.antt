@@ -1,24 +1,41 @@
 -- `access::put_value` meets its contract. Assumes nothing.
+use Prim.Native.Nat.{_-_, _/_}
+use Rattle.storage.proofs.Seeing.{shape-latest, shape-entry, shape-owner}
 use Rattle.storage.proofs.Storing.{put-told}
 use borrow.Author.Needs.{needs}
 use native.Mathlib.Omega.{arith}
 use Rattle.access.proofs.put_value.Statement.{statement}
 use Rattle.access.proofs.put_value.Tie as tie
 
+-- the places, each from a later one
+abbrev edited-at : tie.After-put → tie.After-edited
+edited-at p = p .before .before .before .before .before .before
+
+abbrev shape-at : tie.After-edited → tie.After-shape
+shape-at e =
+    let l = e .before .before .before .before .before in
+    l .before .before .before .before .before
+
+abbrev start-at : tie.After-edited → tie.Start
+start-at e = shape-at e .before .before .before .before .before .before .before
+
+shape-requires : tie.Need-shape-requires
+shape-requires c κs = search needs
+
 latest-requires : tie.Need-latest-requires
-latest-requires c κs = search needs
+latest-requires c κs = let s : tie.Start = search in let h : tie.After-shape = search in rw (h .shape .ensures) (s .pre .newest)
 
 edited-requires : tie.Need-edited-requires
 edited-requires c κs = search needs
 
 sub-put : tie.Need-sub-put
-sub-put c = omega (arith, c .before .before .before .before .before .before .before .before .before .before .before .before .before .before .before .before .before .before .before .before .before .pre .newest .live-some)
+sub-put c = let s : tie.Start = search in omega (arith, s .pre .newest .live-some)
 
 put-requires : tie.Need-put-requires
-put-requires c κs = search needs
+put-requires c κs = let e : tie.After-edited = search in rw (shape-at e .shape .ensures) (start-at e .pre .put)
 
 cast-frame : tie.Need-cast-frame
-cast-frame c = omega (arith, c .before .before .before .before .before .before .before .before .before .before .before .before .before .before .before .before .before .before .before .before .before .before .before .before .before .before .before .before .before .before .before .pre .cmf-below, c .before .before .before .before .before .before .before .before .before .before .before .before .before .before .before .before .before .before .before .before .before .before .before .before .before .before .before .before .before .before .before .pre .newest .frames-few)
+cast-frame c = let p : tie.After-put = search in let s = start-at (edited-at p) in omega (arith, s .pre .cmf-below, s .pre .newest .asks .lent .frames-few)
 
 place-requires : tie.Need-place-requires
 place-requires c κs = search needs
@@ -37,12 +54,20 @@ same-length-4 c = search needs
 
 returns : tie.Need-returns
 returns c =
-    put-told _ _ _ _ _ _ _ (c .before .before .before .before .before .before .before .before .before .before .before .before .before .before .before .before .before .before .before .before .before .before .before .latest .ensures) _ (c .before .before .before .before .before .before .before .before .before .before .before .before .before .before .before .before .before .before .before .before .before .edited .ensures) (search (needs, c .before .before .before .before .before .before .before .before .before .before .before .before .before .before .before .before .before .before .before .before .before .edited .ok)) _ _ _ _ (c .before .before .before .before .before .before .before .before .before .before .before .before .before .before .before .put .ensures .0) (c .before .before .before .before .before .before .before .before .before .before .before .before .before .before .before .put .ensures .1 .0) (c .before .before .before .before .before .before .before .before .before .before .before .before .before .before .before .put .ensures .1 .1 .0) (c .before .before .before .before .before .before .before .before .before .before .before .before .before .before .before .put .ensures .1 .1 .1) _ (c .place .ensures)
+    let p : tie.After-put = search in
+    let e = edited-at p in
+    let l : tie.After-latest = search in
+    let is = shape-at e .shape .ensures in
+    let s = start-at e .args in
+    put-told _ _ _ _ _ _ _ (shape-latest _ _ is _ _ _ _ _ _ _ _ _ _ _ _ _ (l .latest .ensures)) _ (e .edited .ensures) (search (needs, e .edited .ok)) _ _ _ _ (p .put .ensures .0) (rw is at (p .put .ensures .1 .0))
+    (shape-entry _ _ is (s .live - 1) (s .address / 16 / 8) (s .page) (s .table .now) _ (p .put .ensures .1 .1 .0))
+    (shape-owner _ _ is (s .live - 1) (s .address / 16 / 8) (s .page) (s .owners .now) _ (p .put .ensures .1 .1 .1)) _ (c .place .ensures)
 
 pub put-value-spec : {M : Type 1} → statement M
 put-value-spec =
     tie.close
     (tie.spec
+    shape-requires
     latest-requires
     edited-requires
     sub-put

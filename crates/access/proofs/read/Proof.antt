@@ -3,8 +3,8 @@ use mathlib.Core.Path.{refl}
 use Rattle.cache.proofs.Hits.{found-below}
 use Rattle.versions.specs.Newest.{originOf}
 use Rattle.storage.proofs.Admitting.{room-turn, room-newest}
-use Rattle.storage.proofs.Chains.{measured, place-room}
-use Rattle.storage.proofs.Using.{read-refused, hit-told, hit-state, miss-told, miss-state}
+use Rattle.storage.proofs.Chains.{measured, place-measured}
+use Rattle.storage.proofs.Using.{read-refused, read-hits, read-misses}
 use borrow.Author.Needs.{needs}
 use Rattle.access.proofs.read.Statement.{statement}
 use Rattle.access.proofs.read.Tie as tie
@@ -17,7 +17,7 @@ admit-place-requires c κs = search needs
 
 returns : tie.Need-returns
 unfolding originOf
-returns c = (read-refused _ _ _ _ (measured _ _ _ _ _ (c .before .before .measure .ensures) (c .before .admit-place .ensures)) (c .if1 .taken), λ z. absurd (c .if1 .taken z))
+returns c = read-refused _ _ _ _ (measured _ _ (c .before .before .measure .ensures) (c .before .admit-place .ensures .0)) (c .if1 .taken)
 
 find-requires : tie.Need-find-requires
 find-requires c κs = search needs
@@ -26,62 +26,51 @@ enum-known-entry : tie.Need-enum-known-entry
 enum-known-entry c = search needs
 
 line-at-requires : tie.Need-line-at-requires
-line-at-requires c κs = found-below _ _ _ _ _ (c .before .before .before .before .find .ensures) (c .before .before .entry .given .1)
+line-at-requires c κs = search found-below
 
 recall-requires : tie.Need-recall-requires
-recall-requires c κs = found-below _ _ _ _ _ (c .before .before .before .before .before .before .find .ensures) (c .before .before .before .before .entry .given .1)
+recall-requires c κs = search found-below
 
 value-of-requires : tie.Need-value-of-requires
-value-of-requires c κs =
-    let at-if1 : tie.Else1 = search in
-    let at-admit-place : tie.After-admit-place = search in
-    let at-measure : tie.After-measure = search in
-    place-room _ _ _ _ _ (measured _ _ _ _ _ (at-measure .measure .ensures) (at-admit-place .admit-place .ensures)) (at-if1 .if1 .left) .bytes
+value-of-requires c κs = let e : tie.Else1 = search in e .before .admit-place .ensures .1 (e .if1 .left) .bytes
 
 enum-told : tie.Need-enum-told
 enum-told c = search needs
 
 live-requires : tie.Need-live-requires
-live-requires c κs = room-turn _ _ (place-room _ _ _ _ _ (measured _ _ _ _ _ (c .before .before .before .before .before .before .before .measure .ensures) (c .before .before .before .before .before .before .admit-place .ensures)) (c .before .before .before .before .before .if1 .left) .room)
+live-requires c κs = let e : tie.Else1 = search in room-turn _ _ (e .before .admit-place .ensures .1 (e .if1 .left) .room)
 
 load-requires : tie.Need-load-requires
 load-requires c κs =
-    let at-live : tie.After-live = search in
-    let at-if1 : tie.Else1 = search in
-    let at-admit-place : tie.After-admit-place = search in
-    let at-measure : tie.After-measure = search in
-    let p = place-room _ _ _ _ _ (measured _ _ _ _ _ (at-measure .measure .ensures) (at-admit-place .admit-place .ensures)) (at-if1 .if1 .left) in
-    room-newest _ _ _ _ _ _ _ (p .room) _ _ (at-live .live .ensures) (p .line-below)
+    let l : tie.After-live = search in
+    let e : tie.Else1 = search in
+    let g = place-measured (e .before .before .measure .ensures) (e .before .admit-place .ensures .1 (e .if1 .left)) in
+    room-newest _ _ _ _ _ _ _ (g .room) _ _ (l .live .ensures) (g .line-below)
 
 value-of-requires-2 : tie.Need-value-of-requires-2
-value-of-requires-2 c κs =
-    let at-if1 : tie.Else1 = search in
-    let at-admit-place : tie.After-admit-place = search in
-    let at-measure : tie.After-measure = search in
-    place-room _ _ _ _ _ (measured _ _ _ _ _ (at-measure .measure .ensures) (at-admit-place .admit-place .ensures)) (at-if1 .if1 .left) .bytes
+value-of-requires-2 c κs = let e : tie.Else1 = search in e .before .admit-place .ensures .1 (e .if1 .left) .bytes
 
 returns-2 : tie.Need-returns-2
 returns-2 c =
-    let at-entry : tie.After-entry = search in
-    let at-find : tie.After-find = search in
-    let at-if1 : tie.Else1 = search in
-    let at-admit-place : tie.After-admit-place = search in
-    let at-measure : tie.After-measure = search in (
-      hit-told _ _ _ _ (measured _ _ _ _ _ (at-measure .measure .ensures) (at-admit-place .admit-place .ensures)) (at-if1 .if1 .left) _ refl _ (at-find .find .ensures) _ (at-entry .entry .given .1) _ (c .before .before .before .line-at .ensures) _ (c .value-of .ensures) _ (c .before .recall .ensures),
-      λ z. (refl, hit-state _ _ _ _ (measured _ _ _ _ _ (at-measure .measure .ensures) (at-admit-place .admit-place .ensures)) (at-if1 .if1 .left) _ refl _ (at-find .find .ensures) _ (at-entry .entry .given .1) _ (c .before .before .before .line-at .ensures) _ (c .value-of .ensures) _ (c .before .recall .ensures)),
-    )
+    let v : tie.After-value-of = search in
+    let u : tie.After-recall = search in
+    let b : tie.After-line-at = search in
+    let n : tie.After-entry = search in
+    let f : tie.After-find = search in
+    let e : tie.Else1 = search in
+    let told = measured _ _ (e .before .before .measure .ensures) (e .before .admit-place .ensures .0) in
+    read-hits _ _ _ _ told (e .if1 .left) _ refl _ (f .find .ensures) _ (n .entry .given .1) _ (b .line-at .ensures) _ (v .value-of .ensures) _ (u .recall .ensures)
 
 returns-3 : tie.Need-returns-3
 returns-3 c =
-    let at-live : tie.After-live = search in
-    let at-enum-told : tie.After-enum-told = search in
-    let at-find : tie.After-find = search in
-    let at-if1 : tie.Else1 = search in
-    let at-admit-place : tie.After-admit-place = search in
-    let at-measure : tie.After-measure = search in (
-      miss-told _ _ _ _ (measured _ _ _ _ _ (at-measure .measure .ensures) (at-admit-place .admit-place .ensures)) (at-if1 .if1 .left) _ (at-live .live .ensures) _ (at-find .find .ensures) (at-enum-told .enum-told .given .1) _ (c .before .before .load .ensures .0) _ (c .value-of2 .ensures) _ (c .before .before .load .ensures .1),
-      λ z. (refl, miss-state _ _ _ _ (measured _ _ _ _ _ (at-measure .measure .ensures) (at-admit-place .admit-place .ensures)) (at-if1 .if1 .left) _ (at-live .live .ensures) _ (at-find .find .ensures) (at-enum-told .enum-told .given .1) _ (c .before .before .load .ensures .0) _ (c .value-of2 .ensures) _ (c .before .before .load .ensures .1)),
-    )
+    let v : tie.After-value-of2 = search in
+    let d : tie.After-load = search in
+    let l : tie.After-live = search in
+    let t : tie.After-enum-told = search in
+    let f : tie.After-find = search in
+    let e : tie.Else1 = search in
+    let told = measured _ _ (e .before .before .measure .ensures) (e .before .admit-place .ensures .0) in
+    read-misses _ _ _ _ told (e .if1 .left) _ (l .live .ensures) _ (f .find .ensures) (t .enum-told .given .1) _ (d .load .ensures .0) _ (v .value-of2 .ensures) _ (d .load .ensures .1)
 
 pub read-spec : {M : Type 1} → statement M
 read-spec =

@@ -2,10 +2,9 @@
 use mathlib.Core.Path.{sym, _∙_}
 use Rattle.storage.proofs.Admitting.{room-turn}
 use Rattle.storage.proofs.Seeing.{seen-page-asks, seen-page, seen-used}
-use Rattle.storage.proofs.Chains.{measured, write-room}
-use Rattle.storage.proofs.Storing.{write-refused, asks-write, write-full, write-done, write-left}
+use Rattle.storage.proofs.Chains.{measured, place-measured}
+use Rattle.storage.proofs.Storing.{write-refused, asks-write, write-full, write-done}
 use borrow.Author.Needs.{needs}
-use native.Mathlib.Omega.{arith}
 use Rattle.access.proofs.write.Statement.{statement}
 use Rattle.access.proofs.write.Tie as tie
 
@@ -28,37 +27,33 @@ same-length-4 : tie.Need-same-length-4
 same-length-4 c = search needs
 
 returns : tie.Need-returns
-returns c = (write-refused _ _ _ _ _ (measured _ _ _ _ _ (c .before .before .measure .ensures) (c .before .admit-write .ensures)) (c .if1 .taken), λ z. absurd (c .if1 .taken z))
+returns c = write-refused _ _ _ _ _ (measured _ _ (c .before .before .measure .ensures) (c .before .admit-write .ensures .0)) (c .if1 .taken)
 
 live-requires : tie.Need-live-requires
-live-requires c κs = room-turn _ _ (write-room _ _ _ _ _ _ (measured _ _ _ _ _ (c .before .before .measure .ensures) (c .before .admit-write .ensures)) (c .if1 .left) .0 .room)
+live-requires c κs = room-turn _ _ (c .before .admit-write .ensures .1 (c .if1 .left) .room)
 
 ring-requires : tie.Need-ring-requires
 ring-requires c κs = search needs
 
 page-for-requires : tie.Need-page-for-requires
 page-for-requires c κs =
-    let at-ring : tie.After-ring = search in
-    let at-if1 : tie.Else1 = search in
-    let at-admit-write : tie.After-admit-write = search in
-    let at-measure : tie.After-measure = search in
-    let g = write-room _ _ _ _ _ _ (measured _ _ _ _ _ (at-measure .measure .ensures) (at-admit-write .admit-write .ensures)) (at-if1 .if1 .left) .0 in
-    seen-page-asks _ _ (g .room) _ _ _ (at-ring .ring .ensures) _ (g .line-below)
+    let r : tie.After-ring = search in
+    let e : tie.Else1 = search in
+    let g = place-measured (e .before .before .measure .ensures) (e .before .admit-write .ensures .1 (e .if1 .left)) in
+    seen-page-asks _ _ (g .room) _ _ _ (r .ring .ensures) _ (g .line-below)
 
 enum-known-found : tie.Need-enum-known-found
 enum-known-found c = search needs
 
 put-value-requires : tie.Need-put-value-requires
 put-value-requires c κs =
-    let at-found : tie.After-found = search in
-    let at-page-for : tie.After-page-for = search in
-    let at-ring : tie.After-ring = search in
-    let at-live : tie.After-live = search in
-    let at-if1 : tie.Else1 = search in
-    let at-admit-write : tie.After-admit-write = search in
-    let at-measure : tie.After-measure = search in
-    asks-write _ _ _ _ _ (measured _ _ _ _ _ (at-measure .measure .ensures) (at-admit-write .admit-write .ensures)) (at-if1 .if1 .left) _ _ (at-live .live .ensures)
-    (sym (seen-page _ _ _ _ _ _ _ (at-ring .ring .ensures) _ _ _ _ _ (at-page-for .page-for .ensures .0)) ∙ at-found .found .given .1)
+    let f : tie.After-found = search in
+    let p : tie.After-page-for = search in
+    let r : tie.After-ring = search in
+    let l : tie.After-live = search in
+    let e : tie.Else1 = search in
+    let told = measured _ _ (e .before .before .measure .ensures) (e .before .admit-write .ensures .0) in
+    asks-write _ _ _ _ _ told (e .if1 .left) _ _ (l .live .ensures) (sym (seen-page _ _ _ _ _ _ _ (r .ring .ensures) _ _ _ _ _ (p .page-for .ensures .0)) ∙ f .found .given .1)
 
 enum-told : tie.Need-enum-told
 enum-told c = search needs
@@ -77,17 +72,15 @@ same-length-8 c = search needs
 
 returns-2 : tie.Need-returns-2
 returns-2 c =
-    let at-put-value : tie.After-put-value = search in
-    let at-found : tie.After-found = search in
-    let at-page-for : tie.After-page-for = search in
-    let at-ring : tie.After-ring = search in
-    let at-live : tie.After-live = search in
-    let at-if1 : tie.Else1 = search in
-    let at-admit-write : tie.After-admit-write = search in
-    let at-measure : tie.After-measure = search in (
-      write-done _ _ _ _ _ (measured _ _ _ _ _ (at-measure .measure .ensures) (at-admit-write .admit-write .ensures)) (at-if1 .if1 .left) _ (seen-page _ _ _ _ _ _ _ (at-ring .ring .ensures) _ _ _ _ _ (at-page-for .page-for .ensures .0)) _ (at-found .found .given .1) _ (at-live .live .ensures) _ _ (at-put-value .put-value .ensures) _ (seen-used _ _ _ _ _ _ _ (at-ring .ring .ensures) _ _ _ _ _ (at-page-for .page-for .ensures .1)),
-      λ z. write-left _ _ _ _ _ (measured _ _ _ _ _ (at-measure .measure .ensures) (at-admit-write .admit-write .ensures)) (at-if1 .if1 .left) _ (seen-page _ _ _ _ _ _ _ (at-ring .ring .ensures) _ _ _ _ _ (at-page-for .page-for .ensures .0)) _ (at-found .found .given .1) _ (at-live .live .ensures) _ _ (at-put-value .put-value .ensures) _ (seen-used _ _ _ _ _ _ _ (at-ring .ring .ensures) _ _ _ _ _ (at-page-for .page-for .ensures .1)),
-    )
+    let v : tie.After-put-value = search in
+    let f : tie.After-found = search in
+    let p : tie.After-page-for = search in
+    let r : tie.After-ring = search in
+    let l : tie.After-live = search in
+    let e : tie.Else1 = search in
+    let told = measured _ _ (e .before .before .measure .ensures) (e .before .admit-write .ensures .0) in
+    write-done _ _ _ _ _ told (e .if1 .left) _ (seen-page _ _ _ _ _ _ _ (r .ring .ensures) _ _ _ _ _ (p .page-for .ensures .0)) _ (f .found .given .1) _ (l .live .ensures) _ _ (v .put-value .ensures) _
+    (seen-used _ _ _ _ _ _ _ (r .ring .ensures) _ _ _ _ _ (p .page-for .ensures .1))
 
 same-length-9 : tie.Need-same-length-9
 same-length-9 c = search needs
@@ -103,11 +96,11 @@ same-length-12 c = search needs
 
 returns-3 : tie.Need-returns-3
 returns-3 c =
-    let at-ring : tie.After-ring = search in
-    let at-if1 : tie.Else1 = search in
-    let at-admit-write : tie.After-admit-write = search in
-    let at-measure : tie.After-measure = search in
-    (write-full _ _ _ _ _ (measured _ _ _ _ _ (at-measure .measure .ensures) (at-admit-write .admit-write .ensures)) (at-if1 .if1 .left) (sym (seen-page _ _ _ _ _ _ _ (at-ring .ring .ensures) _ _ _ _ _ (c .before .before .page-for .ensures .0)) ∙ c .enum-told .given .1), λ z. absurd (omega arith))
+    let p : tie.After-page-for = search in
+    let r : tie.After-ring = search in
+    let e : tie.Else1 = search in
+    let told = measured _ _ (e .before .before .measure .ensures) (e .before .admit-write .ensures .0) in
+    write-full _ _ _ _ _ told (e .if1 .left) (sym (seen-page _ _ _ _ _ _ _ (r .ring .ensures) _ _ _ _ _ (p .page-for .ensures .0)) ∙ c .enum-told .given .1)
 
 pub write-spec : {M : Type 1} → statement M
 write-spec =

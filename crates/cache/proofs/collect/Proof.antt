@@ -2,8 +2,8 @@
 use mathlib.Core.Path.{_≡_, refl}
 use Prim.Native.Nat.{_-_, _≤_}
 use Rattle.cache.proofs.Returns.{collected-done}
-use Rattle.frames.proofs.Lists.{rewrite-next}
-use Rattle.frames.specs.Lists.{rewrite}
+use Rattle.lists.proofs.Lists.{rewrite-next}
+use Rattle.lists.specs.Lists.{rewrite}
 use Rattle.cache.specs.Steps.{frameAfter}
 use borrow.Author.Needs.{needs}
 use Rattle.cache.proofs.collect.Statement.{statement}

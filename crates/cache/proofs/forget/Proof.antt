@@ -2,9 +2,9 @@
 use mathlib.Core.Path.{_≡_, refl}
 use Prim.Native.Nat.{_-_, _≤_}
 use Rattle.cache.proofs.Returns.{forgotten-done}
-use Rattle.frames.proofs.Lists.{rewrite-next}
+use Rattle.lists.proofs.Lists.{rewrite-next}
 use lib.ListN.{getD}
-use Rattle.frames.specs.Lists.{rewrite}
+use Rattle.lists.specs.Lists.{rewrite}
 use Rattle.cache.specs.Steps.{flagAfter}
 use borrow.Author.Needs.{needs}
 use Rattle.cache.proofs.forget.Statement.{statement}

@@ -1,7 +1,7 @@
 -- `marks::counts` meets its contract. Assumes nothing.
 use mathlib.Core.Path.{ap}
 use Rattle.pages.specs.declared.Ring.{Ring}
-use Rattle.storage.proofs.Admitting.{admitted-room, room-turn}
+use Rattle.storage.proofs.Admitting.{room-turn}
 use Rattle.storage.proofs.Chains.{measured}
 use Rattle.storage.proofs.Counting.{counts-refused, counts-told}
 use borrow.Author.Needs.{needs}
@@ -15,16 +15,20 @@ admit-requires : tie.Need-admit-requires
 admit-requires c κs = search needs
 
 returns : tie.Need-returns
-returns c = λ cache. counts-refused _ _ (measured _ _ _ _ _ (c .before .before .measure .ensures) (c .before .admit .ensures)) (c .if1 .taken)
+returns c = λ cache. counts-refused _ _ (measured _ _ (c .before .before .measure .ensures) (c .before .admit .ensures .0)) (c .if1 .taken)
 
 live-requires : tie.Need-live-requires
-live-requires c κs = room-turn _ _ (admitted-room _ _ _ _ (c .before .admit .ensures) (c .if1 .left))
+live-requires c κs = room-turn _ _ (c .before .admit .ensures .1 (c .if1 .left))
 
 ring-requires : tie.Need-ring-requires
 ring-requires c κs = search needs
 
 returns-2 : tie.Need-returns-2
-returns-2 c = λ cache. counts-told _ _ (measured _ _ _ _ _ (c .before .before .before .before .measure .ensures) (c .before .before .before .admit .ensures)) (c .before .before .if1 .left) _ _ (c .before .live .ensures) (ap (λ (r : Ring). r .used) (c .ring .ensures))
+returns-2 c =
+    let e : tie.Else1 = search in
+    λ cache.
+    counts-told _ _ (measured _ _ (e .before .before .measure .ensures) (e .before .admit .ensures .0)) (e .if1 .left) _ _ (c .before .live .ensures)
+    (ap (λ (r : Ring). r .used) (c .ring .ensures))
 
 pub counts-spec : {M : Type 1} → statement M
 counts-spec =

@@ -1,8 +1,8 @@
 -- `marks::rollback` meets its contract. Assumes nothing.
 use mathlib.Core.Path.{refl}
 use Rattle.storage.proofs.Admitting.{room-turn, room-circle, room-lent}
-use Rattle.storage.proofs.Seeing.{seen-asks, seen-below}
-use Rattle.storage.proofs.Chains.{measured, frames-room}
+use Rattle.storage.proofs.Seeing.{seen-asks, seen-below, seen-lent, seen-rolled}
+use Rattle.storage.proofs.Chains.{measured, frames-measured}
 use Rattle.storage.proofs.Rolling.{rollback-refused, rollback-drops}
 use borrow.Author.Needs.{needs}
 use native.Mathlib.Omega.{arith}
@@ -22,76 +22,46 @@ same-length-2 : tie.Need-same-length-2
 same-length-2 c = search needs
 
 returns : tie.Need-returns
-returns c = λ held bytes last. (rollback-refused _ _ _ (measured _ _ _ _ _ (c .before .before .measure .ensures) (c .before .admit-frames .ensures)) (c .if1 .taken), λ z. absurd (c .if1 .taken z))
+returns c = λ held bytes last. rollback-refused _ _ _ (measured _ _ (c .before .before .measure .ensures) (c .before .admit-frames .ensures .0)) (c .if1 .taken)
 
 live-requires : tie.Need-live-requires
-live-requires c κs = room-turn _ _ (frames-room _ _ _ _ (measured _ _ _ _ _ (c .before .before .measure .ensures) (c .before .admit-frames .ensures)) (c .if1 .left) .room)
+live-requires c κs = room-turn _ _ (c .before .admit-frames .ensures .1 (c .if1 .left) .room)
 
 sub-kept : tie.Need-sub-kept
-sub-kept c =
-    let g = frames-room _ _ _ _ (measured _ _ _ _ _ (c .before .before .before .measure .ensures) (c .before .before .admit-frames .ensures)) (c .before .if1 .left) in
-    omega (arith, g .k-some, g .k-low, c .live .ensures)
+sub-kept c = let e : tie.Else1 = search in omega (arith, e .before .admit-frames .ensures .1 (e .if1 .left), c .live .ensures)
 
 ring-requires : tie.Need-ring-requires
 ring-requires c κs = search needs
 
 pages-below-requires : tie.Need-pages-below-requires
 pages-below-requires c κs =
-    let at-ring : tie.After-ring = search in
-    let at-if1 : tie.Else1 = search in
-    let at-admit-frames : tie.After-admit-frames = search in
-    let at-measure : tie.After-measure = search in
-    let g = frames-room _ _ _ _ (measured _ _ _ _ _ (at-measure .measure .ensures) (at-admit-frames .admit-frames .ensures)) (at-if1 .if1 .left) in
-    seen-asks _ _ (g .room) _ _ _ (at-ring .ring .ensures)
+    let e : tie.Else1 = search in
+    seen-asks _ _ (frames-measured (e .before .before .measure .ensures) (e .before .admit-frames .ensures .1 (e .if1 .left)) .room) _ _ _ (c .ring .ensures)
 
 cast-rollback : tie.Need-cast-rollback
 cast-rollback c =
-    let at-live : tie.After-live = search in
-    let at-if1 : tie.Else1 = search in
-    let at-admit-frames : tie.After-admit-frames = search in
-    let at-measure : tie.After-measure = search in
-    let g = frames-room _ _ _ _ (measured _ _ _ _ _ (at-measure .measure .ensures) (at-admit-frames .admit-frames .ensures)) (at-if1 .if1 .left) in
-    omega (arith, g .live-most, g .room .good .frames-to, at-live .live .ensures)
+    let l : tie.After-live = search in
+    let e : tie.Else1 = search in
+    omega (arith, e .before .admit-frames .ensures .1 (e .if1 .left), l .live .ensures)
 
 rollback-requires : tie.Need-rollback-requires
 rollback-requires c κs =
-    let at-if1 : tie.Else1 = search in
-    let at-admit-frames : tie.After-admit-frames = search in
-    let at-measure : tie.After-measure = search in
-    let g = frames-room _ _ _ _ (measured _ _ _ _ _ (at-measure .measure .ensures) (at-admit-frames .admit-frames .ensures)) (at-if1 .if1 .left) in
-    (room-lent _ _ _ _ _ _ _ (g .room), omega arith)
+    let r : tie.After-ring = search in
+    let e : tie.Else1 = search in
+    let g = frames-measured (e .before .before .measure .ensures) (e .before .admit-frames .ensures .1 (e .if1 .left)) in
+    (seen-lent _ _ _ _ _ _ _ (r .ring .ensures) _ _ (room-lent _ _ _ _ _ _ _ (g .room)), omega arith)
 
 forget-requires : tie.Need-forget-requires
-forget-requires c κs =
-    let at-if1 : tie.Else1 = search in
-    let at-admit-frames : tie.After-admit-frames = search in
-    let at-measure : tie.After-measure = search in
-    let g = frames-room _ _ _ _ (measured _ _ _ _ _ (at-measure .measure .ensures) (at-admit-frames .admit-frames .ensures)) (at-if1 .if1 .left) in
-    room-circle _ _ (g .room)
+forget-requires c κs = let e : tie.Else1 = search in room-circle _ _ (e .before .admit-frames .ensures .1 (e .if1 .left) .room)
 
 add-cmf : tie.Need-add-cmf
-add-cmf c =
-    let at-if1 : tie.Else1 = search in
-    let at-admit-frames : tie.After-admit-frames = search in
-    let at-measure : tie.After-measure = search in
-    let g = frames-room _ _ _ _ (measured _ _ _ _ _ (at-measure .measure .ensures) (at-admit-frames .admit-frames .ensures)) (at-if1 .if1 .left) in
-    omega (arith, g .room .fits .cmf-below, g .room .good .frames-to)
+add-cmf c = let e : tie.Else1 = search in omega (arith, e .before .admit-frames .ensures .1 (e .if1 .left))
 
 sub-cmf : tie.Need-sub-cmf
-sub-cmf c =
-    let at-if1 : tie.Else1 = search in
-    let at-admit-frames : tie.After-admit-frames = search in
-    let at-measure : tie.After-measure = search in
-    let g = frames-room _ _ _ _ (measured _ _ _ _ _ (at-measure .measure .ensures) (at-admit-frames .admit-frames .ensures)) (at-if1 .if1 .left) in
-    omega (arith, g .k-low, g .live-most)
+sub-cmf c = let e : tie.Else1 = search in omega (arith, e .before .admit-frames .ensures .1 (e .if1 .left))
 
 rem-cmf : tie.Need-rem-cmf
-rem-cmf c =
-    let at-if1 : tie.Else1 = search in
-    let at-admit-frames : tie.After-admit-frames = search in
-    let at-measure : tie.After-measure = search in
-    let g = frames-room _ _ _ _ (measured _ _ _ _ _ (at-measure .measure .ensures) (at-admit-frames .admit-frames .ensures)) (at-if1 .if1 .left) in
-    omega (arith, g .room .fits .cmf-below)
+rem-cmf c = let e : tie.Else1 = search in omega (arith, e .before .admit-frames .ensures .1 (e .if1 .left))
 
 same-length-3 : tie.Need-same-length-3
 same-length-3 c = search needs
@@ -101,16 +71,16 @@ same-length-4 c = search needs
 
 returns-2 : tie.Need-returns-2
 returns-2 c =
-    let at-rollback : tie.After-rollback = search in
-    let at-below : tie.After-pages-below = search in
-    let at-ring : tie.After-ring = search in
-    let at-live : tie.After-live = search in
-    let at-if1 : tie.Else1 = search in
-    let at-admit-frames : tie.After-admit-frames = search in
-    let at-measure : tie.After-measure = search in
+    let b : tie.After-rollback = search in
+    let p : tie.After-pages-below = search in
+    let r : tie.After-ring = search in
+    let l : tie.After-live = search in
+    let e : tie.Else1 = search in
+    let is = r .ring .ensures in
+    let told = measured _ _ (e .before .before .measure .ensures) (e .before .admit-frames .ensures .0) in
     λ held bytes last.
-    let p = rollback-drops _ _ _ (measured _ _ _ _ _ (at-measure .measure .ensures) (at-admit-frames .admit-frames .ensures)) (at-if1 .if1 .left) _ (at-live .live .ensures) _ _ _ _ (at-rollback .rollback .ensures) (seen-below _ _ _ _ _ _ _ (at-ring .ring .ensures) _ _ _ (at-below .pages-below .ensures)) _ _ refl (c .before .before .forget .ensures) in
-    (p .0, λ z. p .1)
+    rollback-drops _ _ _ told (e .if1 .left) _ (l .live .ensures) _ _ _ _ (seen-rolled _ _ _ _ _ _ _ is _ _ _ _ _ _ _ (b .rollback .ensures))
+    (seen-below _ _ _ _ _ _ _ is _ _ _ (p .pages-below .ensures)) _ _ refl (c .before .before .forget .ensures)
 
 pub rollback-spec : {M : Type 1} → statement M
 rollback-spec =

@@ -13,13 +13,15 @@ admit-requires : tie.Need-admit-requires
 admit-requires c κs = search needs
 
 returns : tie.Need-returns
-returns c = check-refused _ _ (measured _ _ _ _ _ (c .before .before .measure .ensures) (c .before .admit .ensures)) (c .if1 .taken)
+returns c = check-refused _ _ (measured _ _ (c .before .before .measure .ensures) (c .before .admit .ensures .0)) (c .if1 .taken)
 
 is-well-requires : tie.Need-is-well-requires
-is-well-requires c κs = sym (measured _ _ _ _ _ (c .before .before .measure .ensures) (c .before .admit .ensures)) ∙ c .if1 .left
+is-well-requires c κs = sym (measured _ _ (c .before .before .measure .ensures) (c .before .admit .ensures .0)) ∙ c .if1 .left
 
 returns-2 : tie.Need-returns-2
-returns-2 c = check-told _ _ (measured _ _ _ _ _ (c .before .before .before .measure .ensures) (c .before .before .admit .ensures)) (c .before .if1 .left) _ (c .is-well .ensures)
+returns-2 c =
+    let e : tie.Else1 = search in
+    check-told _ _ (measured _ _ (e .before .before .measure .ensures) (e .before .admit .ensures .0)) (e .if1 .left) _ (c .is-well .ensures)
 
 pub check-spec : {M : Type 1} → statement M
 check-spec = tie.close (tie.spec measure-requires admit-requires returns is-well-requires returns-2)

@@ -1,26 +1,26 @@
 -- `store::is_well` meets its contract. Assumes nothing.
-use mathlib.Core.Path.{refl, sym}
 use borrow.Author.Needs.{needs}
 use native.Mathlib.Omega.{arith}
 use Rattle.wellformed.proofs.Deciding.{part-fails}
-use Rattle.storage.proofs.Admitting.{admitted-room, room-turn, room-archive, room-pool, room-pages}
+use Rattle.storage.proofs.Admitting.{room-passed, room-turn, room-pages}
 use Rattle.storage.proofs.Checking.{room-bits, room-recent, bits-part, entries-part, well-decided}
 use Rattle.store.proofs.is_well.Statement.{statement}
 use Rattle.store.proofs.is_well.Tie as tie
 
 live-requires : tie.Need-live-requires
-live-requires c κs = room-turn _ _ (admitted-room _ _ _ _ (sym (c .before .before .before .before .before .before .pre)) refl)
+live-requires c κs = let s : tie.Start = search in room-turn _ _ (room-passed _ _ (s .pre))
 
 bits-requires : tie.Need-bits-requires
-bits-requires c κs = room-bits _ _ _ _ _ _ _ _ (admitted-room _ _ _ _ (sym (c .before .before .before .before .before .before .before .pre)) refl) (c .live .ensures)
+bits-requires c κs =
+    let l : tie.After-live = search in
+    let s : tie.Start = search in
+    room-bits _ _ _ _ _ _ _ _ (room-passed _ _ (s .pre)) (l .live .ensures)
 
 returns : tie.Need-returns
-returns c = part-fails _ (bits-part _ _ (c .before .before .live .ensures)) (c .before .bits .ensures) (c .if1 .taken)
+returns c = let l : tie.After-live = search in part-fails _ (bits-part _ _ (l .live .ensures)) (c .before .bits .ensures) (c .if1 .taken)
 
 ring-requires : tie.Need-ring-requires
-ring-requires c κs =
-    let at-start : tie.Start = search in
-    room-pages _ _ _ _ _ _ _ (admitted-room _ _ _ _ (sym (at-start .pre)) refl)
+ring-requires c κs = let s : tie.Start = search in room-pages _ _ _ _ _ _ _ (room-passed _ _ (s .pre))
 
 returns-2 : tie.Need-returns-2
 returns-2 c = part-fails _ (λ q. q .pages) (c .before .ring .ensures) (c .if2 .taken)
@@ -32,32 +32,22 @@ returns-3 : tie.Need-returns-3
 returns-3 c = part-fails _ (entries-part _) (c .before .entries .ensures) (c .if3 .taken)
 
 mul-bytes : tie.Need-mul-bytes
-mul-bytes c =
-    let at-start : tie.Start = search in
-    let g = admitted-room _ _ _ _ (sym (at-start .pre)) refl in
-    omega (arith, g .good .lines-to)
+mul-bytes c = let s : tie.Start = search in omega (arith, room-passed _ _ (s .pre))
 
 bytes-requires : tie.Need-bytes-requires
-bytes-requires c κs =
-    let at-start : tie.Start = search in
-    room-archive _ _ (admitted-room _ _ _ _ (sym (at-start .pre)) refl)
+bytes-requires c κs = let s : tie.Start = search in room-passed _ _ (s .pre) .archive-long
 
 mul-bytes-2 : tie.Need-mul-bytes-2
-mul-bytes-2 c =
-    let at-start : tie.Start = search in
-    let g = admitted-room _ _ _ _ (sym (at-start .pre)) refl in
-    omega (arith, g .good .pages-to)
+mul-bytes-2 c = let s : tie.Start = search in omega (arith, room-passed _ _ (s .pre))
 
 bytes-requires-2 : tie.Need-bytes-requires-2
-bytes-requires-2 c κs =
-    let at-start : tie.Start = search in
-    room-pool _ _ (admitted-room _ _ _ _ (sym (at-start .pre)) refl)
+bytes-requires-2 c κs = let s : tie.Start = search in room-passed _ _ (s .pre) .pool-long
 
 coherent-requires : tie.Need-coherent-requires
 coherent-requires c κs =
-    let at-live : tie.After-live = search in
-    let at-start : tie.Start = search in
-    room-recent _ _ _ _ _ _ _ _ (admitted-room _ _ _ _ (sym (at-start .pre)) refl) (at-live .live .ensures)
+    let l : tie.After-live = search in
+    let s : tie.Start = search in
+    room-recent _ _ _ _ _ _ _ _ (room-passed _ _ (s .pre)) (l .live .ensures)
 
 returns-4 : tie.Need-returns-4
 returns-4 c = search well-decided

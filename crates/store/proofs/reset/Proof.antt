@@ -21,13 +21,17 @@ same-length-3 : tie.Need-same-length-3
 same-length-3 c = search needs
 
 returns : tie.Need-returns
-returns c = (reset-refused _ _ _ _ _ (asked-measured _ _ _ _ (c .before .before .measure .ensures) (c .before .asked-refusal .ensures)) (c .if1 .taken), λ z. absurd (c .if1 .taken z))
+returns c = reset-refused _ _ _ _ _ (asked-measured _ (c .before .before .measure .ensures) (c .before .asked-refusal .ensures)) (c .if1 .taken)
 
 zero-requires : tie.Need-zero-requires
-zero-requires c κs = zero-asks _ _ _ _ _ (asked-measured _ _ _ _ (c .before .before .before .measure .ensures) (c .before .before .asked-refusal .ensures)) (c .before .if1 .left)
+zero-requires c κs =
+    let e : tie.Else1 = search in
+    zero-asks _ _ _ _ _ (asked-measured _ (e .before .before .measure .ensures) (e .before .asked-refusal .ensures)) (e .if1 .left)
 
 reset-requires : tie.Need-reset-requires
-reset-requires c κs = reset-asks _ _ _ _ _ (asked-measured _ _ _ _ (c .before .before .before .before .before .before .before .before .measure .ensures) (c .before .before .before .before .before .before .before .asked-refusal .ensures)) (c .before .before .before .before .before .before .if1 .left)
+reset-requires c κs =
+    let e : tie.Else1 = search in
+    reset-asks _ _ _ _ _ (asked-measured _ (e .before .before .measure .ensures) (e .before .asked-refusal .ensures)) (e .if1 .left)
 
 fresh-requires : tie.Need-fresh-requires
 fresh-requires c κs = search needs
@@ -43,8 +47,11 @@ same-length-6 c = search needs
 
 returns-2 : tie.Need-returns-2
 returns-2 c =
-    let p = reset-begins _ _ _ _ _ (asked-measured _ _ _ _ (c .before .before .before .before .before .before .before .before .before .before .before .before .before .before .measure .ensures) (c .before .before .before .before .before .before .before .before .before .before .before .before .before .asked-refusal .ensures)) (c .before .before .before .before .before .before .before .before .before .before .before .before .if1 .left) _ _ _ _ (c .before .before .before .before .before .before .before .before .before .before .zero .ensures) (c .before .before .before .before .before .reset .ensures .0) (c .before .before .before .before .before .reset .ensures .1) (c .fresh .ensures) in
-    (p .0, λ z. p .1)
+    let w : tie.After-reset = search in
+    let o : tie.After-zero = search in
+    let e : tie.Else1 = search in
+    let told = asked-measured _ (e .before .before .measure .ensures) (e .before .asked-refusal .ensures) in
+    reset-begins _ _ _ _ _ told (e .if1 .left) _ _ _ _ (o .zero .ensures) (w .reset .ensures .0) (w .reset .ensures .1) (c .fresh .ensures)
 
 pub reset-spec : {M : Type 1} → statement M
 reset-spec =

@@ -7,7 +7,7 @@ use Rattle.versions.proofs.clear.Statement.{statement}
 use Rattle.versions.proofs.clear.Tie as tie
 
 abbrev Inv-loop : tie.InvT-loop
-Inv-loop groups₀ owners ring gone i₀ groups i = Clearing (ring .lines) (ring .pages) (ring .first) owners gone groups₀ i groups
+Inv-loop groups₀ owners ring gone i₀ groups i = Clearing (ring .shape .lines) (ring .pages) (ring .first) owners gone groups₀ i groups
 
 abbrev μ-loop : tie.MeasureT-loop
 μ-loop groups₀ owners ring gone i₀ groups i = gone - i

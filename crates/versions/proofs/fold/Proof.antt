@@ -3,13 +3,13 @@ use mathlib.Core.Path.{refl}
 use Prim.Native.Nat.{_-_}
 use native.Mathlib.Omega.{arith}
 use borrow.Author.Needs.{needs}
-use Rattle.written.specs.Bits.{writtenOf}
+use Rattle.written.specs.Bits.{writtenAt}
 use Rattle.versions.proofs.Folding.{Pages, pages-start, page-owned, pages-stop, pages-ask, pages-next, pages-end}
 use Rattle.versions.proofs.fold.Statement.{statement}
 use Rattle.versions.proofs.fold.Tie as tie
 
 abbrev Inv-loop : tie.InvT-loop
-Inv-loop archive₀ pool groups history owners ring k used i₀ archive i = Pages (writtenOf (ring .lines) (ring .frames) (ring .omf) groups history) (ring .pages) (ring .first) used pool owners archive₀ k i archive
+Inv-loop archive₀ pool groups history owners ring k used i₀ archive i = Pages (writtenAt (ring .shape) groups history) (ring .pages) (ring .first) used pool owners archive₀ k i archive
 
 abbrev μ-loop : tie.MeasureT-loop
 μ-loop archive₀ pool groups history owners ring k used i₀ archive i = used - i

@@ -2,13 +2,13 @@
 use Prim.Native.Nat.{_-_}
 use native.Mathlib.Omega.{arith}
 use borrow.Author.Needs.{needs}
-use Rattle.written.specs.Bits.{writtenOf}
+use Rattle.written.specs.Bits.{writtenAt}
 use Rattle.versions.proofs.Folding.{Lines, lines-start, lines-ask, lines-next, lines-end, lines-none}
 use Rattle.versions.proofs.fold_page.Statement.{statement}
 use Rattle.versions.proofs.fold_page.Tie as tie
 
 abbrev Inv-loop : tie.InvT-loop
-Inv-loop archive₀ pool groups history ring page index block n₀ archive n = Lines (writtenOf (ring .lines) (ring .frames) (ring .omf) groups history) pool page index block archive₀ n archive
+Inv-loop archive₀ pool groups history ring page index block n₀ archive n = Lines (writtenAt (ring .shape) groups history) pool page index block archive₀ n archive
 
 abbrev μ-loop : tie.MeasureT-loop
 μ-loop archive₀ pool groups history ring page index block n₀ archive n = 8 - n

@@ -10,8 +10,8 @@ enum-known-found c = search needs
 frame-at-requires : tie.Need-frame-at-requires
 frame-at-requires c κs = search found-turn
 
-named-requires : tie.Need-named-requires
-named-requires c κs = search found-entry
+page-at-requires : tie.Need-page-at-requires
+page-at-requires c κs = search found-entry
 
 returns : tie.Need-returns
 returns c = search spot-page
@@ -31,7 +31,7 @@ locate-spec =
     (tie.spec
     enum-known-found
     frame-at-requires
-    named-requires
+    page-at-requires
     returns
     enum-told
     returns-2

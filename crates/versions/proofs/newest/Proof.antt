@@ -12,31 +12,46 @@ search-requires : tie.Need-search-requires
 search-requires c κs = search needs
 
 locate-requires : tie.Need-locate-requires
-locate-requires c κs = spot-asks _ _ _ _ _ (c .before .before .before .before .before .before .pre .asks) (c .before .before .before .before .before .before .pre .line-below) (search needs) (c .search .ensures)
+locate-requires c κs = let s : tie.Start = search in spot-asks _ _ _ _ _ (s .pre .asks) (s .pre .line-below) (search needs) (c .search .ensures)
 
 content-at-requires : tie.Need-content-at-requires
-content-at-requires c κs = content-asks _ _ _ _ _ _ _ _ (c .before .before .before .before .before .before .before .pre .asks) (c .before .before .before .before .before .before .before .pre .line-below) (c .before .before .before .before .before .before .before .pre .pages-few) (c .before .before .before .before .before .before .before .pre .archive-long) (c .before .before .before .before .before .before .before .pre .pool-long) (c .locate .ensures)
+content-at-requires c κs =
+    let s : tie.Start = search in
+    content-asks _ _ _ _ _ _ _ _ (s .pre .asks) (s .pre .line-below) (s .pre .pages-few) (s .pre .archive-long) (s .pre .pool-long) (c .locate .ensures)
 
 enum-known-found : tie.Need-enum-known-found
 enum-known-found c = search needs
 
 frame-at-requires : tie.Need-frame-at-requires
-frame-at-requires c κs = newest-turn _ _ _ _ _ _ _ (c .before .before .before .before .before .before .before .before .before .before .before .pre) _ _ (c .before .before .before .before .before .search .ensures) (c .before .found .given .1)
+frame-at-requires c κs =
+    let s : tie.Start = search in
+    let f : tie.After-search = search in
+    let g : tie.After-found = search in
+    newest-turn _ _ _ _ _ _ _ (s .pre) _ _ (f .search .ensures) (g .found .given .1)
 
-cast-t19 : tie.Need-cast-t19
-cast-t19 c = search newest-fits
+cast-frame : tie.Need-cast-frame
+cast-frame c = search newest-fits
 
-sub-t20 : tie.Need-sub-t20
-sub-t20 c = search needs
+sub-back : tie.Need-sub-back
+sub-back c = search needs
 
-sub-t21 : tie.Need-sub-t21
-sub-t21 c = omega (arith, newest-within _ _ _ _ _ _ _ (c .before .before .before .before .before .before .before .before .before .before .before .before .pre) _ _ (c .before .before .before .before .before .before .search .ensures) (c .before .before .found .given .1))
+sub-back-2 : tie.Need-sub-back-2
+sub-back-2 c =
+    let s : tie.Start = search in
+    let f : tie.After-search = search in
+    let g : tie.After-found = search in
+    omega (arith, newest-within _ _ _ _ _ _ _ (s .pre) _ _ (f .search .ensures) (g .found .given .1))
 
 enum-told : tie.Need-enum-told
 enum-told c = search needs
 
 returns : tie.Need-returns
-returns c = newest-at _ _ _ _ _ _ _ _ _ _ (c .before .before .before .before .before .before .search .ensures) (c .before .before .before .before .before .locate .ensures) (c .before .before .before .before .content-at .ensures) _ _ (c .before .before .found .given .1) (c .frame-at .ensures)
+returns c =
+    let f : tie.After-search = search in
+    let l : tie.After-locate = search in
+    let b : tie.After-content-at = search in
+    let g : tie.After-found = search in
+    newest-at _ _ _ _ _ _ _ _ _ _ (f .search .ensures) (l .locate .ensures) (b .content-at .ensures) _ _ (g .found .given .1) (c .frame-at .ensures)
 
 returns-2 : tie.Need-returns-2
 returns-2 c = search newest-none
@@ -51,9 +66,9 @@ newest-spec =
     content-at-requires
     enum-known-found
     frame-at-requires
-    cast-t19
-    sub-t20
-    sub-t21
+    cast-frame
+    sub-back
+    sub-back-2
     enum-told
     returns
     returns-2)

@@ -3,7 +3,7 @@ use mathlib.Core.Path.{refl}
 use Prim.Native.Nat.{_-_, _≤_}
 use borrow.Author.Needs.{needs}
 use native.Mathlib.Omega.{arith}
-use Rattle.frames.proofs.Lists.{Rewritten, rewrite-start, rewrite-more, rewrite-end}
+use Rattle.lists.proofs.Lists.{Rewritten, rewrite-start, rewrite-more, rewrite-end}
 use Rattle.versions.specs.Steps.{zeroed}
 use Rattle.versions.proofs.zero.Statement.{statement}
 use Rattle.versions.proofs.zero.Tie as tie

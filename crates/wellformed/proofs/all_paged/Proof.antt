@@ -1,7 +1,7 @@
 -- `wellformed::all_paged` meets its contract. Assumes nothing.
 use Prim.Native.Nat.{_-_}
 use native.Mathlib.Omega.{arith}
-use Rattle.written.specs.Bits.{writtenOf}
+use Rattle.written.specs.Bits.{writtenAt}
 use Rattle.wellformed.proofs.Deciding.{says-yes, passes, part-fails, AllBelow, all-start, all-next, all-end}
 use Rattle.wellformed.proofs.Rings.{entry-few, EntryPaged, entries-paged, paged-entry}
 use Rattle.wellformed.proofs.all_paged.Statement.{statement}
@@ -9,7 +9,7 @@ use Rattle.wellformed.proofs.all_paged.Tie as tie
 
 abbrev Inv-loop : tie.InvT-loop
 Inv-loop groups history table owners ring entries entry₀ entry =
-    AllBelow entry (EntryPaged (writtenOf (ring .lines) (ring .frames) (ring .omf) groups history) (ring .pages) (ring .first) (ring .used) table owners)
+    AllBelow entry (EntryPaged (writtenAt (ring .shape) groups history) (ring .pages) (ring .first) (ring .used) table owners)
 
 abbrev μ-loop : tie.MeasureT-loop
 μ-loop groups history table owners ring entries entry₀ entry = entries - entry

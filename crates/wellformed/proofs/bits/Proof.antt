@@ -26,7 +26,7 @@ returns-3 : tie.Need-returns-3
 returns-3 c = part-fails _ (λ h. h .ordered) (c .before .is-ordered .ensures) (c .if3 .taken)
 
 mul-tags-known : tie.Need-mul-tags-known
-mul-tags-known c = omega (arith, count-few _ _ (c .before .before .before .before .before .before .before .pre .lent .lines-few) (c .before .before .before .before .before .before .before .pre .lent .frames-few))
+mul-tags-known c = let s : tie.Start = search in omega (arith, count-few _ _ (s .pre .lent .lines-few) (s .pre .lent .frames-few))
 
 tags-known-requires : tie.Need-tags-known-requires
 tags-known-requires c κs = search needs

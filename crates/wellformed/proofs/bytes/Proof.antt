@@ -16,14 +16,14 @@ abbrev μ-loop : tie.MeasureT-loop
 loop-holds : tie.Need-loop-holds Inv-loop μ-loop
 loop-holds c = all-start _
 
-cast-wide : tie.Need-cast-wide Inv-loop μ-loop
-cast-wide c = search needs
+cast-widen-u8 : tie.Need-cast-widen-u8 Inv-loop μ-loop
+cast-widen-u8 c = search needs
 
-shared-slice-read-wide : tie.Need-shared-slice-read-wide Inv-loop μ-loop
-shared-slice-read-wide c = search needs
+shared-slice-read-widen-u8 : tie.Need-shared-slice-read-widen-u8 Inv-loop μ-loop
+shared-slice-read-widen-u8 c = search needs
 
-wide-requires : tie.Need-wide-requires Inv-loop μ-loop
-wide-requires c κs = search needs
+widen-u8-requires : tie.Need-widen-u8-requires Inv-loop μ-loop
+widen-u8-requires c κs = search needs
 
 add-i : tie.Need-add-i Inv-loop μ-loop
 add-i c = search needs
@@ -32,7 +32,7 @@ loop-less : tie.Need-loop-less Inv-loop μ-loop
 loop-less c = omega arith
 
 loop-again : tie.Need-loop-again Inv-loop μ-loop
-loop-again c = all-next _ _ (c .before .before .before .loop .inv) (omega (arith, c .wide .ensures .0, c .wide .ensures .1))
+loop-again c = all-next _ _ (c .before .before .before .loop .inv) (omega (arith, c .widen-u8 .ensures .0, c .widen-u8 .ensures .1))
 
 returns : tie.Need-returns Inv-loop μ-loop
 returns c = all-end _ _ _ (c .before .loop .inv) (c .loop-test .left)
@@ -44,9 +44,9 @@ bytes-spec =
     Inv-loop
     μ-loop
     loop-holds
-    cast-wide
-    shared-slice-read-wide
-    wide-requires
+    cast-widen-u8
+    shared-slice-read-widen-u8
+    widen-u8-requires
     add-i
     loop-less
     loop-again

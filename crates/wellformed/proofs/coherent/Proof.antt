@@ -4,18 +4,18 @@ use mathlib.Core.Logic.{inl, inr}
 use borrow.Author.Needs.{needs}
 use native.Mathlib.Omega.{arith}
 use Rattle.cache.specs.Entries.{Sized}
-use Rattle.written.specs.Bits.{writtenOf}
+use Rattle.written.specs.Bits.{writtenAt}
 use Rattle.wellformed.proofs.Deciding.{AllBelow, all-start, all-next}
 use Rattle.wellformed.proofs.Recent.{IfValid, not-valid, entry-fails, entry-passes, entries-end}
 use Rattle.wellformed.proofs.coherent.Statement.{statement}
 use Rattle.wellformed.proofs.coherent.Tie as tie
 
 abbrev Inv-loop : tie.InvT-loop
-Inv-loop cache archive pool groups table history lines frames omf pages live held numbers valid e₀ e =
-    (Sized cache) × (AllBelow e (IfValid (writtenOf lines frames omf groups history) pages live archive pool table cache))
+Inv-loop cache archive pool groups table history shape pages live held numbers valid e₀ e =
+    (Sized cache) × (AllBelow e (IfValid (writtenAt shape groups history) pages live archive pool table cache))
 
 abbrev μ-loop : tie.MeasureT-loop
-μ-loop cache archive pool groups table history lines frames omf pages live held numbers valid e₀ e = 32 - e
+μ-loop cache archive pool groups table history shape pages live held numbers valid e₀ e = 32 - e
 
 loop-holds : tie.Need-loop-holds Inv-loop μ-loop
 loop-holds c = (record { lines = search needs; frames = search needs; valid = search needs; bytes = search needs; last = search needs }, all-start _)

@@ -2,14 +2,14 @@
 use Prim.Native.Nat.{_-_}
 use native.Mathlib.Omega.{arith}
 use borrow.Author.Needs.{needs}
-use Rattle.written.specs.Bits.{writtenOf}
+use Rattle.written.specs.Bits.{writtenAt}
 use Rattle.pages.proofs.Halving.{page-lent}
 use Rattle.wellformed.proofs.Rings.{Walked, walked-start, walked-unbacked, walked-falls, walked-next, walked-end}
 use Rattle.wellformed.proofs.in_order.Statement.{statement}
 use Rattle.wellformed.proofs.in_order.Tie as tie
 
 abbrev Inv-loop : tie.InvT-loop
-Inv-loop groups history table owners ring used i₀ last₀ i last = Walked (writtenOf (ring .lines) (ring .frames) (ring .omf) groups history) (ring .pages) (ring .first) table owners i last
+Inv-loop groups history table owners ring used i₀ last₀ i last = Walked (writtenAt (ring .shape) groups history) (ring .pages) (ring .first) table owners i last
 
 abbrev μ-loop : tie.MeasureT-loop
 μ-loop groups history table owners ring used i₀ last₀ i last = used - i

@@ -1,7 +1,7 @@
 -- `wellformed::is_paged` meets its contract. Assumes nothing.
 use native.Mathlib.Omega.{arith}
 use borrow.Author.Needs.{needs}
-use Rattle.wellformed.proofs.Rings.{entry-asks, entry-code, paged-unneeded, paged-told}
+use Rattle.wellformed.proofs.Rings.{entry-asks, entry-page, entry-code, paged-unneeded, paged-told}
 use Rattle.wellformed.proofs.is_paged.Statement.{statement}
 use Rattle.wellformed.proofs.is_paged.Tie as tie
 
@@ -17,14 +17,8 @@ needed-requires c κs = let s : tie.Start = search in entry-asks _ _ (s .args .o
 returns : tie.Need-returns
 returns c = let n : tie.After-needed = search in let s : tie.Start = search in paged-unneeded _ _ (s .args .owners .now) _ _ _ _ (s .pre .0) (s .pre .2) _ (n .needed .ensures) (c .if1 .taken)
 
-mul-wide : tie.Need-mul-wide
-mul-wide c = search needs
-
-shared-slice-read-wide : tie.Need-shared-slice-read-wide
-shared-slice-read-wide c = search needs
-
-wide-requires : tie.Need-wide-requires
-wide-requires c κs = search needs
+page-at-requires : tie.Need-page-at-requires
+page-at-requires c κs = let s : tie.Start = search in entry-page _ _ (s .args .owners .now) 0 0 0 _ (s .pre .0) (s .pre .2)
 
 mul-is-own : tie.Need-mul-is-own
 mul-is-own c = let s : tie.Start = search in omega (arith, entry-code _ _ (s .args .owners .now) 0 0 0 _ (s .pre .0) (s .pre .2))
@@ -36,7 +30,7 @@ is-own-requires : tie.Need-is-own-requires
 is-own-requires c κs = search needs
 
 returns-2 : tie.Need-returns-2
-returns-2 c = let w : tie.After-wide = search in let e : tie.Else1 = search in let n : tie.After-needed = search in let s : tie.Start = search in paged-told _ _ (s .args .owners .now) _ _ _ _ (s .pre .0) (s .pre .2) _ (n .needed .ensures) (e .if1 .left) _ (w .wide .ensures .0) _ (c .is-own .ensures)
+returns-2 c = let w : tie.After-page-at = search in let e : tie.Else1 = search in let n : tie.After-needed = search in let s : tie.Start = search in paged-told _ _ (s .args .owners .now) _ _ _ _ (s .pre .0) (s .pre .2) _ (n .needed .ensures) (e .if1 .left) _ (w .page-at .ensures .0) _ (c .is-own .ensures)
 
 pub is-paged-spec : {M : Type 1} → statement M
 is-paged-spec =
@@ -46,9 +40,7 @@ is-paged-spec =
     rem-block
     needed-requires
     returns
-    mul-wide
-    shared-slice-read-wide
-    wide-requires
+    page-at-requires
     mul-is-own
     add-is-own
     is-own-requires

@@ -3,24 +3,24 @@ use native.Mathlib.Omega.{arith}
 use Prim.Native.Nat.{_+_, _-_, _*_, _≤_}
 use mathlib.Core.Path.{_≡_, refl, _∙_}
 use mathlib.Core.Bool.{false}
-use Rattle.written.specs.Bits.{writtenOf}
+use Rattle.written.specs.Bits.{writtenAt}
 use Rattle.written.proofs.Blocks.{NoneIn, NoneBefore, up-some, none-more, lines-more, block-none, block-found}
 use Rattle.written.proofs.block_has.Statement.{statement}
 use Rattle.written.proofs.block_has.Tie as tie
 
 abbrev Inv-loop : tie.InvT-loop
-Inv-loop groups history lines frames omf block from end found₀ n i₀ found i =
-    (from ≤ i) × NoneIn (writtenOf lines frames omf groups history) (block * 8 + n) from i × (found ≡ false)
+Inv-loop groups history shape block from end found₀ n i₀ found i =
+    (from ≤ i) × NoneIn (writtenAt shape groups history) (block * 8 + n) from i × (found ≡ false)
 
 abbrev μ-loop : tie.MeasureT-loop
-μ-loop groups history lines frames omf block from end found₀ n i₀ found i = end - i
+μ-loop groups history shape block from end found₀ n i₀ found i = end - i
 
 abbrev Inv-lines : tie.InvT-lines
-Inv-lines groups history lines frames omf block from end found₀ n₀ found n =
-    (n ≤ 8) × NoneBefore (writtenOf lines frames omf groups history) block n from end × (found ≡ false)
+Inv-lines groups history shape block from end found₀ n₀ found n =
+    (n ≤ 8) × NoneBefore (writtenAt shape groups history) block n from end × (found ≡ false)
 
 abbrev μ-lines : tie.MeasureT-lines
-μ-lines groups history lines frames omf block from end found₀ n₀ found n = 8 - n
+μ-lines groups history shape block from end found₀ n₀ found n = 8 - n
 
 lines-holds : tie.Need-lines-holds Inv-loop μ-loop Inv-lines μ-lines
 lines-holds c = (omega arith, (λ m b. absurd (omega arith)), refl)

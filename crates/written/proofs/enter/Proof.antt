@@ -2,7 +2,7 @@
 use Prim.Native.Nat.{_-_, _≤_, min}
 use borrow.Author.Needs.{needs}
 use native.Mathlib.Omega.{arith}
-use Rattle.frames.proofs.Lists.{Rewritten, rewrite-start, rewrite-more, rewrite-end}
+use Rattle.lists.proofs.Lists.{Rewritten, rewrite-start, rewrite-more, rewrite-end}
 use Rattle.written.proofs.Sweeping.{entered-told}
 use Rattle.written.proofs.enter.Statement.{statement}
 use Rattle.written.proofs.enter.Tie as tie

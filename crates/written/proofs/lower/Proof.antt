@@ -3,7 +3,7 @@ use Prim.Native.Nat.{_-_, _≤_}
 use borrow.Author.Needs.{needs}
 use native.Mathlib.Omega.{arith}
 use Rattle.written.specs.Steps.{lowerBound, lowered}
-use Rattle.frames.proofs.Lists.{Rewritten, rewrite-start, rewrite-more, rewrite-end}
+use Rattle.lists.proofs.Lists.{Rewritten, rewrite-start, rewrite-more, rewrite-end}
 use Rattle.written.proofs.lower.Statement.{statement}
 use Rattle.written.proofs.lower.Tie as tie
 

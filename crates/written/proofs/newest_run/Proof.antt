@@ -5,23 +5,23 @@ use borrow.Author.Needs.{needs}
 use Rattle.written.proofs.newest_run.Statement.{statement}
 use Rattle.written.proofs.newest_run.Tie as tie
 
-least-requires : tie.Need-least-requires
-least-requires c κs = search needs
+min-requires : tie.Need-min-requires
+min-requires c κs = search needs
 
 sub-low : tie.Need-sub-low
 sub-low c = search needs
 
-add-least : tie.Need-add-least
-add-least c = search needs
+add-min : tie.Need-add-min
+add-min c = search needs
 
-add-less : tie.Need-add-less
-add-less c = search needs
+add-saturating-sub : tie.Need-add-saturating-sub
+add-saturating-sub c = search needs
 
-less-requires : tie.Need-less-requires
-less-requires c κs = search needs
+saturating-sub-requires : tie.Need-saturating-sub-requires
+saturating-sub-requires c κs = search needs
 
-least-requires-2 : tie.Need-least-requires-2
-least-requires-2 c κs = search needs
+min-requires-2 : tie.Need-min-requires-2
+min-requires-2 c κs = search needs
 
 newest-bit-requires : tie.Need-newest-bit-requires
 newest-bit-requires c κs = search needs
@@ -31,11 +31,11 @@ enum-known-q c = search needs
 
 add-t13 : tie.Need-add-t13
 add-t13 c =
-    let h = run-told-within _ _ _ _ _ _ _ _ _ (c .before .before .before .before .before .before .least .ensures) (c .before .before .before .before .before .less .ensures) (c .before .before .before .before .least2 .ensures) (c .before .before .before .newest-bit .ensures) (c .before .q .given .1) in
+    let h = run-told-within _ _ _ _ _ _ _ _ _ (c .before .before .before .before .before .before .min .ensures) (c .before .before .before .before .before .saturating-sub .ensures) (c .before .before .before .before .min2 .ensures) (c .before .before .before .newest-bit .ensures) (c .before .q .given .1) in
     omega arith
 
 sub-t14 : tie.Need-sub-t14
-sub-t14 c = run-told-within _ _ _ _ _ _ _ _ _ (c .before .before .before .before .before .before .least .ensures) (c .before .before .before .before .before .less .ensures) (c .before .before .before .before .least2 .ensures) (c .before .before .before .newest-bit .ensures) (c .before .q .given .1) .0
+sub-t14 c = run-told-within _ _ _ _ _ _ _ _ _ (c .before .before .before .before .before .before .min .ensures) (c .before .before .before .before .before .saturating-sub .ensures) (c .before .before .before .before .min2 .ensures) (c .before .before .before .newest-bit .ensures) (c .before .q .given .1) .0
 
 enum-told : tie.Need-enum-told
 enum-told c = search needs
@@ -50,12 +50,12 @@ pub newest-run-spec : {M : Type 1} → statement M
 newest-run-spec =
     tie.close
     (tie.spec
-    least-requires
+    min-requires
     sub-low
-    add-least
-    add-less
-    less-requires
-    least-requires-2
+    add-min
+    add-saturating-sub
+    saturating-sub-requires
+    min-requires-2
     newest-bit-requires
     enum-known-q
     add-t13

@@ -6,13 +6,13 @@ use Rattle.written.proofs.place_of.Statement.{statement}
 use Rattle.written.proofs.place_of.Tie as tie
 
 mul-result : tie.Need-mul-result
-mul-result c = omega (arith, mul-le-mul (c .pre .area-few) (c .pre .lines-few))
+mul-result c = let s : tie.Start = search in omega (arith, mul-le-mul (s .pre .area-few) (s .pre .lines-few))
 
 add-result : tie.Need-add-result
-add-result c = omega (arith, mul-le-mul (c .pre .area-few) (c .pre .lines-few))
+add-result c = let s : tie.Start = search in omega (arith, mul-le-mul (s .pre .area-few) (s .pre .lines-few))
 
 cast-result : tie.Need-cast-result
-cast-result c = omega (arith, mul-le-mul (c .pre .area-few) (c .pre .lines-few))
+cast-result c = let s : tie.Start = search in omega (arith, mul-le-mul (s .pre .area-few) (s .pre .lines-few))
 
 returns : tie.Need-returns
 returns c = search needs

@@ -1,7 +1,7 @@
 -- `written::regroup` meets its contract. Assumes nothing.
 use Prim.Native.Nat.{_%_}
 use native.Mathlib.Omega.{arith}
-use Rattle.frames.proofs.Digits.{set-small}
+use Rattle.numbers.proofs.Digits.{set-small}
 use Rattle.written.specs.Steps.{regrouped}
 use Rattle.written.proofs.Windows.{window-small}
 use borrow.Author.Needs.{needs}

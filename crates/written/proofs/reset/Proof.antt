@@ -4,7 +4,7 @@ use Prim.Native.Nat.{_-_, _≤_}
 use borrow.Author.Needs.{needs}
 use native.Mathlib.Omega.{arith}
 use Rattle.written.specs.Steps.{blanked}
-use Rattle.frames.proofs.Lists.{Rewritten, rewrite-start, rewrite-more, rewrite-end}
+use Rattle.lists.proofs.Lists.{Rewritten, rewrite-start, rewrite-more, rewrite-end}
 use Rattle.written.proofs.Sweeping.{count-few}
 use Rattle.written.proofs.reset.Statement.{statement}
 use Rattle.written.proofs.reset.Tie as tie

@@ -7,12 +7,12 @@ use Rattle.written.proofs.run_down.Tie as tie
 frame-at-requires : tie.Need-frame-at-requires
 frame-at-requires c κs = search needs
 
-least-requires : tie.Need-least-requires
-least-requires c κs = search needs
+min-requires : tie.Need-min-requires
+min-requires c κs = search needs
 
 returns : tie.Need-returns
 unfolding downOf
 returns c = cc
 
 pub run-down-spec : {M : Type 1} → statement M
-run-down-spec = tie.close (tie.spec frame-at-requires least-requires returns)
+run-down-spec = tie.close (tie.spec frame-at-requires min-requires returns)

@@ -7,18 +7,18 @@ use Rattle.written.proofs.run_up.Tie as tie
 frame-at-requires : tie.Need-frame-at-requires
 frame-at-requires c κs = search needs
 
-sub-least : tie.Need-sub-least
-sub-least c = search needs
+sub-min : tie.Need-sub-min
+sub-min c = search needs
 
-less-requires : tie.Need-less-requires
-less-requires c κs = search needs
+saturating-sub-requires : tie.Need-saturating-sub-requires
+saturating-sub-requires c κs = search needs
 
-least-requires : tie.Need-least-requires
-least-requires c κs = search needs
+min-requires : tie.Need-min-requires
+min-requires c κs = search needs
 
 returns : tie.Need-returns
 unfolding upOf
 returns c = cc
 
 pub run-up-spec : {M : Type 1} → statement M
-run-up-spec = tie.close (tie.spec frame-at-requires sub-least less-requires least-requires returns)
+run-up-spec = tie.close (tie.spec frame-at-requires sub-min saturating-sub-requires min-requires returns)

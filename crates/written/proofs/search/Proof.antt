@@ -3,17 +3,17 @@ use Prim.Native.Nat.{_<_}
 use mathlib.Core.Path.{_≡_, refl}
 use borrow.Author.Needs.{needs}
 use native.Mathlib.Omega.{arith}
-use Rattle.written.specs.Bits.{writtenOf, newestFrom}
+use Rattle.written.specs.Bits.{writtenAt, newestFrom}
 use Rattle.written.proofs.Runs.{from-at, from-none, from-again}
 use Rattle.written.proofs.search.Statement.{statement}
 use Rattle.written.proofs.search.Tie as tie
 
 abbrev Inv-loop : tie.InvT-loop
-Inv-loop groups history lines frames omf line start i₀ i =
-    (i < frames) × (newestFrom (writtenOf lines frames omf groups history) line start ≡ newestFrom (writtenOf lines frames omf groups history) line i)
+Inv-loop groups history shape line start i₀ i =
+    (i < shape .frames) × (newestFrom (writtenAt shape groups history) line start ≡ newestFrom (writtenAt shape groups history) line i)
 
 abbrev μ-loop : tie.MeasureT-loop
-μ-loop groups history lines frames omf line start i₀ i = i
+μ-loop groups history shape line start i₀ i = i
 
 loop-holds : tie.Need-loop-holds Inv-loop μ-loop
 loop-holds c = (search needs, refl)

@@ -1,7 +1,5 @@
 -- `written::set` meets its contract. Assumes nothing.
-use Prim.Native.Nat.{_<_}
-use lib.ListN.{length}
-use Rattle.written.proofs.Setting.{set-in, set-asks, set-told}
+use Rattle.written.proofs.Setting.{set-asks, set-told}
 use Rattle.written.proofs.Areas.{asks-near}
 use borrow.Author.Needs.{needs}
 use Rattle.written.proofs.set.Statement.{statement}
@@ -10,48 +8,42 @@ use Rattle.written.proofs.set.Tie as tie
 frame-at-requires : tie.Need-frame-at-requires
 frame-at-requires c κs = search needs
 
-place-of-requires : tie.Need-place-of-requires
-place-of-requires c κs = asks-near _ _ _ _ (c .before .before .before .pre .0) (c .frame-at .ensures) .0
-
-mul-group : tie.Need-mul-group
-mul-group c =
-    let h : c .place-of .result < length (c .before .before .before .before .args .groups .now) = set-in _ _ _ (c .before .before .before .before .pre .0) _ _ (c .before .frame-at .ensures) (c .place-of .ensures) in
-    search needs
-
-slice-read-group : tie.Need-slice-read-group
-slice-read-group c = set-in _ _ _ (c .before .before .before .before .before .pre .0) _ _ (c .before .before .frame-at .ensures) (c .before .place-of .ensures)
+group-at-requires : tie.Need-group-at-requires
+group-at-requires c κs = let s : tie.Start = search in let f : tie.After-frame-at = search in asks-near _ _ _ _ (s .pre .0) (f .frame-at .ensures)
 
 bound-of-requires : tie.Need-bound-of-requires
 bound-of-requires c κs = search needs
 
 regroup-requires : tie.Need-regroup-requires
-regroup-requires c κs = (set-asks _ _ _ (c .before .before .before .before .before .before .pre .0) _ _ (c .before .before .before .frame-at .ensures) (c .bound-of .ensures .1), c .before .before .before .before .before .before .pre .1)
+regroup-requires c κs =
+    let s : tie.Start = search in
+    let f : tie.After-frame-at = search in
+    let b : tie.After-bound-of = search in
+    (set-asks _ _ _ (s .pre .0) _ _ (f .frame-at .ensures) (b .bound-of .ensures .1), s .pre .1)
 
-mul-groups : tie.Need-mul-groups
-mul-groups c =
-    let h : c .before .before .before .place-of .result < length (c .before .before .before .before .before .before .before .args .groups .now) = set-in _ _ _ (c .before .before .before .before .before .before .before .pre .0) _ _ (c .before .before .before .before .frame-at .ensures) (c .before .before .before .place-of .ensures) in
-    search needs
-
-slice-write-groups : tie.Need-slice-write-groups
-slice-write-groups c = set-in _ _ _ (c .before .before .before .before .before .before .before .pre .0) _ _ (c .before .before .before .before .frame-at .ensures) (c .before .before .before .place-of .ensures)
+put-group-requires : tie.Need-put-group-requires
+put-group-requires c κs = let s : tie.Start = search in let f : tie.After-frame-at = search in asks-near _ _ _ _ (s .pre .0) (f .frame-at .ensures)
 
 same-length : tie.Need-same-length
 same-length c = search needs
 
 returns : tie.Need-returns
-returns c = set-told _ _ _ _ _ _ _ _ (c .before .before .before .before .frame-at .ensures) (c .before .before .before .place-of .ensures) (c .before .bound-of .ensures) (c .regroup .ensures)
+returns c =
+    let f : tie.After-frame-at = search in
+    let g : tie.After-group-at = search in
+    let b : tie.After-bound-of = search in
+    let r : tie.After-regroup = search in
+    let p : tie.After-put-group = search in
+    set-told _ _ _ _ _ _ _ _ _ (f .frame-at .ensures) (g .group-at .ensures) (b .bound-of .ensures) (r .regroup .ensures) (p .put-group .ensures)
 
 pub set-spec : {M : Type 1} → statement M
 set-spec =
     tie.close
     (tie.spec
     frame-at-requires
-    place-of-requires
-    mul-group
-    slice-read-group
+    group-at-requires
     bound-of-requires
     regroup-requires
-    mul-groups
-    slice-write-groups
+    put-group-requires
     same-length
     returns)

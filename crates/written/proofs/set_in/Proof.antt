@@ -1,55 +1,56 @@
 -- `written::set_in` meets its contract. Assumes nothing.
-use Prim.Native.Nat.{_-_, _%_}
+use mathlib.Core.Path.{refl}
+use Prim.Native.Nat.{_-_, _*_, _/_, _%_}
+use native.Mathlib.Omega.{arith}
 use borrow.Author.Needs.{needs}
-use Rattle.frames.specs.Digits.{digit}
-use Rattle.written.proofs.Blanks.{Added, added-start, digits-more, set-end}
+use Rattle.numbers.specs.Digits.{digit}
+use Rattle.written.specs.Bits.{placeOf}
+use Rattle.written.proofs.Blanks.{Added, added-start, set-near, digits-more, set-end}
 use Rattle.written.proofs.set_in.Statement.{statement}
 use Rattle.written.proofs.set_in.Tie as tie
 
 abbrev Inv-loop : tie.InvT-loop
-Inv-loop groups lines frame block at here sum₀ n₀ sum n = Added (λ g. digit g (frame % 16)) groups at 8 n sum
+Inv-loop groups shape frame block here sum₀ n₀ sum n = Added (λ g. digit g (frame % 16)) groups (placeOf (shape .lines) (frame / 16) (block * 8)) 8 n sum
 
 abbrev μ-loop : tie.MeasureT-loop
-μ-loop groups lines frame block at here sum₀ n₀ sum n = 8 - n
+μ-loop groups shape frame block here sum₀ n₀ sum n = 8 - n
 
-mul-place-of : tie.Need-mul-place-of Inv-loop μ-loop
-mul-place-of c = search needs
-
-place-of-requires : tie.Need-place-of-requires Inv-loop μ-loop
-place-of-requires c κs = search needs
-
-power-requires : tie.Need-power-requires Inv-loop μ-loop
-power-requires c κs = search needs
+power-of-two-requires : tie.Need-power-of-two-requires Inv-loop μ-loop
+power-of-two-requires c κs = search needs
 
 loop-holds : tie.Need-loop-holds Inv-loop μ-loop
 loop-holds c = added-start _ _ _ _
 
-add-sum : tie.Need-add-sum Inv-loop μ-loop
-add-sum c = search needs
+mul-group-at : tie.Need-mul-group-at Inv-loop μ-loop
+mul-group-at c = let s : tie.Start Inv-loop μ-loop = search in omega (arith, s .pre .near .line-few)
 
-mul-sum : tie.Need-mul-sum Inv-loop μ-loop
-mul-sum c = search needs
+add-group-at : tie.Need-add-group-at Inv-loop μ-loop
+add-group-at c = let s : tie.Start Inv-loop μ-loop = search in let t : tie.In-loop Inv-loop μ-loop = search in omega (arith, s .pre .near .line-few, t .loop-test .taken)
 
-shared-slice-read-sum : tie.Need-shared-slice-read-sum Inv-loop μ-loop
-shared-slice-read-sum c = search needs
+group-at-requires : tie.Need-group-at-requires Inv-loop μ-loop
+group-at-requires c κs = let s : tie.Start Inv-loop μ-loop = search in let t : tie.In-loop Inv-loop μ-loop = search in set-near _ _ _ _ _ _ (s .pre) refl (omega (arith, t .loop-test .taken))
 
 div-sum : tie.Need-div-sum Inv-loop μ-loop
 div-sum c = search needs
 
-add-sum-2 : tie.Need-add-sum-2 Inv-loop μ-loop
-add-sum-2 c = search needs
+add-sum : tie.Need-add-sum Inv-loop μ-loop
+add-sum c = search needs
 
 add-n : tie.Need-add-n Inv-loop μ-loop
 add-n c = search needs
 
 loop-less : tie.Need-loop-less Inv-loop μ-loop
-loop-less c = search needs
+loop-less c = omega arith
 
 loop-again : tie.Need-loop-again Inv-loop μ-loop
-loop-again c = digits-more _ _ _ _ _ _ _ (c .before .before .loop .inv) (c .before .loop-test .taken) (c .before .before .before .power .ensures)
+loop-again c =
+    let p : tie.After-power-of-two Inv-loop μ-loop = search in
+    let t : tie.In-loop Inv-loop μ-loop = search in
+    let g : tie.After-group-at Inv-loop μ-loop = search in
+    digits-more _ _ _ _ _ _ _ _ (t .before .loop .inv) (omega (arith, t .loop-test .taken)) (p .power-of-two .ensures) (g .group-at .ensures)
 
 returns : tie.Need-returns Inv-loop μ-loop
-returns c = search set-end
+returns c = set-end _ _ _ _ _ _ (c .before .loop .inv) (omega (arith, c .loop-test .left))
 
 pub set-in-spec : {M : Type 1} → statement M
 set-in-spec =
@@ -57,15 +58,13 @@ set-in-spec =
     (tie.spec
     Inv-loop
     μ-loop
-    mul-place-of
-    place-of-requires
-    power-requires
+    power-of-two-requires
     loop-holds
-    add-sum
-    mul-sum
-    shared-slice-read-sum
+    mul-group-at
+    add-group-at
+    group-at-requires
     div-sum
-    add-sum-2
+    add-sum
     add-n
     loop-less
     loop-again

@@ -4,17 +4,17 @@ use borrow.Author.Needs.{needs}
 use Rattle.written.proofs.stands_in.Statement.{statement}
 use Rattle.written.proofs.stands_in.Tie as tie
 
-add-least : tie.Need-add-least
-add-least c = search needs
+add-min : tie.Need-add-min
+add-min c = search needs
 
-add-less : tie.Need-add-less
-add-less c = search needs
+add-saturating-sub : tie.Need-add-saturating-sub
+add-saturating-sub c = search needs
 
-less-requires : tie.Need-less-requires
-less-requires c κs = search needs
+saturating-sub-requires : tie.Need-saturating-sub-requires
+saturating-sub-requires c κs = search needs
 
-least-requires : tie.Need-least-requires
-least-requires c κs = search needs
+min-requires : tie.Need-min-requires
+min-requires c κs = search needs
 
 newest-bit-requires : tie.Need-newest-bit-requires
 newest-bit-requires c κs = search needs
@@ -35,10 +35,10 @@ pub stands-in-spec : {M : Type 1} → statement M
 stands-in-spec =
     tie.close
     (tie.spec
-    add-least
-    add-less
-    less-requires
-    least-requires
+    add-min
+    add-saturating-sub
+    saturating-sub-requires
+    min-requires
     newest-bit-requires
     enum-told
     enum-told-2

@@ -3,17 +3,17 @@ use Prim.Native.Nat.{_-_, _*_, _/_, _≤_}
 use borrow.Author.Needs.{needs}
 use native.Mathlib.Omega.{arith}
 use Rattle.written.specs.Steps.{maskedOf, swept}
-use Rattle.frames.proofs.Lists.{Rewritten}
+use Rattle.lists.proofs.Lists.{Rewritten}
 use Rattle.written.proofs.Sweeping.{place-few, area-within, area-more, areas-end, areas-start}
 use Rattle.written.proofs.sweep.Statement.{statement}
 use Rattle.written.proofs.sweep.Tie as tie
 
 abbrev Inv-loop : tie.InvT-loop
-Inv-loop groups₀ history lines frames omf areas area₀ groups area =
-    (area ≤ areas) × Rewritten (area * lines) (λ at g. maskedOf frames omf (at / lines) history g) groups₀ groups
+Inv-loop groups₀ history shape lines frames areas area₀ groups area =
+    (area ≤ areas) × Rewritten (area * lines) (λ at g. maskedOf (shape .frames) (shape .omf) (at / lines) history g) groups₀ groups
 
 abbrev μ-loop : tie.MeasureT-loop
-μ-loop groups₀ history lines frames omf areas area₀ groups area =
+μ-loop groups₀ history shape lines frames areas area₀ groups area =
     areas - area
 
 loop-holds : tie.Need-loop-holds Inv-loop μ-loop
@@ -24,6 +24,9 @@ mul-first c = omega (arith, place-few _ _ _ (c .before .before .before .before .
 
 cast-first : tie.Need-cast-first Inv-loop μ-loop
 cast-first c = omega (arith, place-few _ _ _ (c .before .before .before .before .pre .lines-few) (c .before .before .before .before .pre .frames-few) (c .loop-test .taken))
+
+cast-end : tie.Need-cast-end Inv-loop μ-loop
+cast-end c = search needs
 
 add-end : tie.Need-add-end Inv-loop μ-loop
 add-end c = omega (arith, place-few _ _ _ (c .before .before .before .before .pre .lines-few) (c .before .before .before .before .pre .frames-few) (c .loop-test .taken))
@@ -61,7 +64,7 @@ loop-less c = omega arith
 loop-again : tie.Need-loop-again Inv-loop μ-loop
 loop-again c = (
   omega arith,
-  area-more _ _ _ (λ a g. maskedOf (c .before .before .before .before .before .before .before .before .args .frames) (c .before .before .before .before .before .before .before .before .args .omf) a (c .before .before .before .before .before .before .before .before .args .history .now) g)
+  area-more _ _ _ (λ a g. maskedOf (c .before .before .before .before .before .before .before .before .args .shape .frames) (c .before .before .before .before .before .before .before .before .args .shape .omf) a (c .before .before .before .before .before .before .before .before .args .history .now) g)
       _ _ _ (c .before .before .before .before .loop-test .taken) (c .before .before .before .before .before .before .before .before .pre .groups-long) (c .before .before .before .before .before .loop .inv .1) (c .before .before .sweep-area .ensures),
 )
 
@@ -81,6 +84,7 @@ sweep-spec =
     loop-holds
     mul-first
     cast-first
+    cast-end
     add-end
     mul-sweep-area
     sub-sweep-area

@@ -4,7 +4,7 @@ use borrow.Author.Needs.{needs}
 use native.Mathlib.Omega.{arith}
 use lib.ListN.{length}
 use Rattle.written.specs.Steps.{maskedOf}
-use Rattle.frames.proofs.Lists.{Rewritten, rewrite-start, rewrite-more, rewrite-end}
+use Rattle.lists.proofs.Lists.{Rewritten, rewrite-start, rewrite-more, rewrite-end}
 use Rattle.written.proofs.Sweeping.{masked-told}
 use Rattle.written.proofs.sweep_area.Statement.{statement}
 use Rattle.written.proofs.sweep_area.Tie as tie
@@ -20,11 +20,11 @@ abbrev μ-loop : tie.MeasureT-loop
 first-index-requires : tie.Need-first-index-requires Inv-loop μ-loop
 first-index-requires c κs = search needs
 
-sub-least : tie.Need-sub-least Inv-loop μ-loop
-sub-least c = omega arith
+sub-min : tie.Need-sub-min Inv-loop μ-loop
+sub-min c = omega arith
 
-least-requires : tie.Need-least-requires Inv-loop μ-loop
-least-requires c κs = search needs
+min-requires : tie.Need-min-requires Inv-loop μ-loop
+min-requires c κs = search needs
 
 loop-holds : tie.Need-loop-holds Inv-loop μ-loop
 loop-holds c = (omega arith, rewrite-start _ _)
@@ -54,7 +54,7 @@ loop-again : tie.Need-loop-again Inv-loop μ-loop
 loop-again c = (
   omega arith,
   rewrite-more _ (c .before .before .before .loop .inv .1)
-      (masked-told _ _ _ _ _ _ _ _ (c .before .before .before .before .before .first-index .ensures) (c .before .before .before .before .least .ensures) (c .masked .ensures)),
+      (masked-told _ _ _ _ _ _ _ _ (c .before .before .before .before .before .first-index .ensures) (c .before .before .before .before .min .ensures) (c .masked .ensures)),
 )
 
 same-length : tie.Need-same-length Inv-loop μ-loop
@@ -70,8 +70,8 @@ sweep-area-spec =
     Inv-loop
     μ-loop
     first-index-requires
-    sub-least
-    least-requires
+    sub-min
+    min-requires
     loop-holds
     mul-masked
     slice-read-masked

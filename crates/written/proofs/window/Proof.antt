@@ -7,11 +7,11 @@ use Rattle.written.proofs.window.Tie as tie
 first-index-requires : tie.Need-first-index-requires
 first-index-requires c κs = search needs
 
-sub-least : tie.Need-sub-least
-sub-least c = search needs
+sub-min : tie.Need-sub-min
+sub-min c = search needs
 
-least-requires : tie.Need-least-requires
-least-requires c κs = search needs
+min-requires : tie.Need-min-requires
+min-requires c κs = search needs
 
 cut-requires : tie.Need-cut-requires
 cut-requires c κs = search needs
@@ -21,4 +21,4 @@ returns c = search window-told
 
 pub window-spec : {M : Type 1} → statement M
 window-spec =
-    tie.close (tie.spec first-index-requires sub-least least-requires cut-requires returns)
+    tie.close (tie.spec first-index-requires sub-min min-requires cut-requires returns)

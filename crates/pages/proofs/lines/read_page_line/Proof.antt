@@ -16,6 +16,9 @@ part-read-line-start c = search needs
 part-read-line-end : tie.Need-part-read-line-end
 part-read-line-end c = search needs
 
+mul-read-line : tie.Need-mul-read-line
+mul-read-line c = search needs
+
 read-line-requires : tie.Need-read-line-requires
 read-line-requires c κs = search needs
 
@@ -30,5 +33,6 @@ read-page-line-spec =
     sub-read-line
     part-read-line-start
     part-read-line-end
+    mul-read-line
     read-line-requires
     returns)

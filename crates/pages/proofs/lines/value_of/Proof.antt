@@ -16,26 +16,26 @@ abbrev μ-loop : tie.MeasureT-loop
 loop-holds : tie.Need-loop-holds Inv-loop μ-loop
 loop-holds c = search reading-first
 
-add-least : tie.Need-add-least Inv-loop μ-loop
-add-least c = search needs
+add-min : tie.Need-add-min Inv-loop μ-loop
+add-min c = search needs
 
-least-requires : tie.Need-least-requires Inv-loop μ-loop
-least-requires c κs = search needs
+min-requires : tie.Need-min-requires Inv-loop μ-loop
+min-requires c κs = search needs
 
 cast-at : tie.Need-cast-at Inv-loop μ-loop
 cast-at c = search needs
 
-array-read-wide : tie.Need-array-read-wide Inv-loop μ-loop
-array-read-wide c = search needs
+array-read-widen-u8 : tie.Need-array-read-widen-u8 Inv-loop μ-loop
+array-read-widen-u8 c = search needs
 
-wide-requires : tie.Need-wide-requires Inv-loop μ-loop
-wide-requires c κs = search needs
+widen-u8-requires : tie.Need-widen-u8-requires Inv-loop μ-loop
+widen-u8-requires c κs = search needs
 
 mul-value : tie.Need-mul-value Inv-loop μ-loop
 mul-value c = omega (arith, more-fits (c .before .before .before .before .before .pre) (c .before .before .before .before .loop .inv) (c .if1 .taken))
 
 add-value : tie.Need-add-value Inv-loop μ-loop
-add-value c = omega (arith, c .before .wide .ensures .1, more-fits (c .before .before .before .before .before .pre) (c .before .before .before .before .loop .inv) (c .if1 .taken))
+add-value c = omega (arith, c .before .widen-u8 .ensures .1, more-fits (c .before .before .before .before .before .pre) (c .before .before .before .before .loop .inv) (c .if1 .taken))
 
 add-i : tie.Need-add-i Inv-loop μ-loop
 add-i c = search needs
@@ -46,7 +46,7 @@ loop-less c = search needs
 loop-again : tie.Need-loop-again Inv-loop μ-loop
 loop-again c =
     elim (c .if1 .came) [
-      | inl p ↦ reading-more (c .before .before .before .before .before .pre) (c .before .before .before .before .loop .inv) (p .0 .taken) (search needs) _ _ (c .before .before .least .ensures) (c .before .wide .ensures) _ (p .1)
+      | inl p ↦ reading-more (c .before .before .before .before .before .pre) (c .before .before .before .before .loop .inv) (p .0 .taken) (search needs) _ _ (c .before .before .min .ensures) (c .before .widen-u8 .ensures) _ (p .1)
       | inr p ↦ reading-stays (c .before .before .before .before .before .pre) (c .before .before .before .before .loop .inv) (p .0 .left) _ (p .1)
     ]
 
@@ -60,11 +60,11 @@ value-of-spec =
     Inv-loop
     μ-loop
     loop-holds
-    add-least
-    least-requires
+    add-min
+    min-requires
     cast-at
-    array-read-wide
-    wide-requires
+    array-read-widen-u8
+    widen-u8-requires
     mul-value
     add-value
     add-i

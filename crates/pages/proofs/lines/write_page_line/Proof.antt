@@ -16,6 +16,9 @@ part-write-line-start c = search needs
 part-write-line-end : tie.Need-part-write-line-end
 part-write-line-end c = search needs
 
+mul-write-line : tie.Need-mul-write-line
+mul-write-line c = search needs
+
 write-line-requires : tie.Need-write-line-requires
 write-line-requires c κs = search needs
 
@@ -33,6 +36,7 @@ write-page-line-spec =
     sub-write-line
     part-write-line-start
     part-write-line-end
+    mul-write-line
     write-line-requires
     same-length
     returns)

@@ -8,7 +8,7 @@ use Rattle.pages.proofs.segment.pages_below.Statement.{statement}
 use Rattle.pages.proofs.segment.pages_below.Tie as tie
 
 abbrev Inv-loop : tie.InvT-loop
-Inv-loop owners ring limit low₀ high₀ low high = Edge (ring .used) (indexAt (ring .frames) (ring .omf) (ring .pages) (ring .first) owners) limit low high
+Inv-loop owners ring limit low₀ high₀ low high = Edge (ring .used) (indexAt (ring .shape .frames) (ring .shape .omf) (ring .pages) (ring .first) owners) limit low high
 
 abbrev μ-loop : tie.MeasureT-loop
 μ-loop owners ring limit low₀ high₀ low high = high - low

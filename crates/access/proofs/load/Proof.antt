@@ -1,0 +1,23 @@
+-- `access::load` meets its contract. Assumes nothing.
+use borrow.Author.Needs.{needs}
+use Rattle.access.proofs.load.Statement.{statement}
+use Rattle.access.proofs.load.Tie as tie
+
+shape-requires : tie.Need-shape-requires
+shape-requires c κs = search needs
+
+newest-requires : tie.Need-newest-requires
+newest-requires c κs = let h : tie.After-shape = search in let s : tie.Start = search in rw (h .shape .ensures) (s .pre)
+
+place-requires : tie.Need-place-requires
+place-requires c κs = search needs
+
+returns : tie.Need-returns
+returns c =
+    let p : tie.After-place = search in
+    let n : tie.After-newest = search in
+    let h : tie.After-shape = search in
+    (rw (h .shape .ensures) at (n .newest .ensures), p .place .ensures)
+
+pub load-spec : {M : Type 1} → statement M
+load-spec = tie.close (tie.spec shape-requires newest-requires place-requires returns)

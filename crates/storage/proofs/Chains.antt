@@ -17,8 +17,9 @@ use Rattle.rules.proofs.Registers.{live-some}
 use Rattle.numbers.specs.declared.Found.{Found}
 use Rattle.written.specs.Bits.{writtenOf, newestFrom}
 use Rattle.pages.specs.Lines.{AsksBytes}
-use Rattle.versions.specs.Newest.{AsksSpot}
-use Rattle.versions.proofs.Finding.{newest-below}
+use Rattle.versions.specs.declared.Spot.{Spot}
+use Rattle.versions.specs.Newest.{AsksSpot, spotOf, AsksContent}
+use Rattle.versions.proofs.Finding.{newest-below, content-asks}
 use Rattle.storage.specs.Admit.{admitted, LineRoom, PlaceRoom, FramesRoom, Admits}
 use Rattle.storage.proofs.Admitting.{admitted-room}
 
@@ -297,3 +298,8 @@ line-spot s p l g live e groups history found told =
       index-below = λ i d. omega (arith, g .room .live-some, g .room .live-most, newest-below (writtenOf (s .settings .lines) (s .settings .frames) (s .omf) groups history) l (live - 1) i (sym told ∙ d));
       table-long = g .room .table-long;
     }
+
+pub line-content : (s : Registers) (p : Pieces) (l : ℕ) → LineRoom s p l → (table : List ℕ) (found : Found) (spot : Spot)
+    → spot ≡ spotOf (s .settings .lines) (s .settings .frames) (s .omf) (s .settings .pages) table l found → AsksContent l spot (p .archive) (p .pool)
+line-content s p l g table found spot e =
+    content-asks _ _ _ _ l table _ _ found spot (g .room .lines-by) (g .room .lines-to) (g .line-below) (g .room .pages-to) (g .room .archive-long) (g .room .pool-long) e

@@ -3,8 +3,7 @@ use mathlib.Core.Path.{_≡_, refl, sym, _∙_, ap, ap₂, subst}
 use mathlib.Core.Logic.{_≢_}
 use mathlib.Core.Bool.{cond}
 use mathlib.Core.List.{List, []}
-use Prim.Native.Nat.{ℕ, _-_, _*_, _/_, _%_, _≤_, _<_}
-use native.Mathlib.Omega.{arith}
+use Prim.Native.Nat.{ℕ, _-_, _/_, _%_, _<_}
 use lib.ListN.{length, set}
 use Rattle.rules.specs.Line.{Line, lineOf, offsetOf, valueAt}
 use Rattle.rules.specs.Call.{Answer, refused}
@@ -22,7 +21,7 @@ use Rattle.rules.specs.Promise.{Promise, Followed, seenOf, settingsFor}
 use Rattle.rules.proofs.Chain.{Placed, place-passed}
 use Rattle.rules.proofs.Width.{line-below}
 use Rattle.rules.proofs.WellCache.{use-well}
-use Rattle.pages.specs.Lines.{pageLine, archiveLine, AsksPage, AsksArchive}
+use Rattle.pages.specs.Lines.{pageLine, archiveLine}
 use Rattle.numbers.specs.declared.Found.{Found}
 use Rattle.written.specs.Bits.{newestFrom}
 use Rattle.cache.specs.declared.Cache.{Cache}
@@ -37,7 +36,7 @@ use Rattle.versions.specs.declared.Spot.the-variants.{Page, Archive}
 use Rattle.versions.specs.declared.Version.{Version}
 use Rattle.versions.specs.declared.Origin.the-variants as origin
 use Rattle.versions.specs.Newest.{pageOf, spotOf, contentOf, originOf, newestOf, latestOf}
-use Rattle.versions.proofs.Finding.{spot-below, latest-hit, latest-miss}
+use Rattle.versions.proofs.Finding.{latest-hit, latest-miss}
 use Rattle.storage.specs.declared.State.{State}
 use Rattle.storage.specs.Storage.{Storage, stateOf, settingsIn, registersIn, lengthsIn, liveIn, writtenIn, frameIn, archiveIn, versionAt, latestIn, newestFrame, Recent, WellStore, store}
 use Rattle.storage.specs.Steps.{givenRegisters, usedState, readState}
@@ -212,13 +211,3 @@ module _ (x : Storage) (l r : ℕ) (told : r ≡ admittedIn x (lineRefusal (sett
     pub line-in-archive : (bytes : List ℕ) → spot ≡ Archive → bytes ≡ archiveLine (x .memory .archive) l → Promise store (ON (LOOK (LINE l))) x (lending bytes) x
     unfolding contentOf
     line-in-archive bytes e d = told-so bytes (d ∙ sym (ap (contentOf (x .memory .archive) (x .memory .pool) l) e))
-
--- What is asked of the page, and of the archive.
-pub page-asks : (lines frames omf pages : ℕ) (table : List ℕ) (l : ℕ) (found : Found) (spot : Spot) (p n : ℕ) → spot ≡ spotOf lines frames omf pages table l found
-    → spot ≡ Page p → pages ≤ 4096 → 128 * pages ≤ n → AsksPage p (l % 8) n
-page-asks lines frames omf pages table l found spot p n e d few long =
-    let b = spot-below lines frames omf pages table l found p (sym e ∙ d) in
-    record { page-few = omega arith; slot-below = omega arith; room = omega arith }
-
-pub archive-asks : (lines l n : ℕ) → lines % 8 ≡ 0 → lines ≤ 4096 → l < lines → 16 * lines ≤ n → AsksArchive l n
-archive-asks lines l n by few b long = record { line-few = omega arith; room = omega arith }

@@ -17,7 +17,7 @@ use Rattle.frames.proofs.Circle.{frame-below}
 use Rattle.numbers.proofs.Search.{greatest-found}
 use Rattle.written.specs.Bits.{Written, effective, newestFrom}
 use Rattle.written.proofs.Areas.{place-below}
-use Rattle.pages.specs.Lines.{pageLine, archiveLine, AsksPage}
+use Rattle.pages.specs.Lines.{pageLine, archiveLine}
 use Rattle.pages.specs.Table.{blocksOf, placeAt, entryOf, AsksTable, entryAt, AsksEntry}
 use Rattle.pages.proofs.Needs.{place-frame, place-block}
 use Rattle.cache.specs.declared.Entry.{Entry}
@@ -121,25 +121,15 @@ module _ (lines frames omf pages : ℕ) (table : List ℕ) (line : ℕ) (r : Fou
       go Nothing e = let z : _≡_ {A = ℕ} 0 1 = cc in absurd (omega arith)
 
 -- ---- the bytes of a version
-pub content-asks : (w : Written) (pages line : ℕ) (table : List ℕ) (archive pool : ℕ) (r : Found) (spot : Spot) → AsksTable w table → line < w .lines → pages ≤ 4096
-    → 16 * w .lines ≤ archive → 128 * pages ≤ pool → spot ≡ spotOf (w .lines) (w .frames) (w .omf) pages table line r
-    → AsksContent (w .lines) pages line spot archive pool
-content-asks w pages line table archive pool r spot a l few long room e =
+pub content-asks : (lines frames omf pages line : ℕ) (table : List ℕ) (archive pool : ℕ) (r : Found) (spot : Spot) → lines % 8 ≡ 0 → lines ≤ 4096 → line < lines → pages ≤ 4096
+    → 16 * lines ≤ archive → 128 * pages ≤ pool → spot ≡ spotOf lines frames omf pages table line r → AsksContent line spot archive pool
+content-asks lines frames omf pages line table archive pool r spot by some l few long room e =
     record {
-      lines-by = a .lines-by;
-      lines-few = a .lent .lines-few;
-      line-below = l;
-      pages-few = few;
-      page-below = λ p h. spot-below (w .lines) (w .frames) (w .omf) pages table line r p (sym e ∙ h);
-      archive-long = long;
-      pool-long = room;
+      page = λ p h.
+          let b : p < pages = spot-below lines frames omf pages table line r p (sym e ∙ h) in
+          record { page-few = omega arith; slot-below = omega arith; room = omega arith };
+      archived = record { line-few = omega arith; room = omega arith };
     }
-
-pub page-asks : (lines pages line : ℕ) (spot : Spot) (archive pool page : ℕ) → AsksContent lines pages line spot archive pool → spot ≡ Page page
-    → AsksPage page (line % 8) pool
-page-asks lines pages line spot archive pool page a e =
-    let b : page < pages = a .page-below page e in
-    record { page-few = omega (arith, a .pages-few); slot-below = omega arith; room = omega (arith, a .pool-long) }
 
 module _ (archive pool : List ℕ) (line : ℕ) (spot : Spot) (x : Line) where
   pub content-page : (p : ℕ) → spot ≡ Page p → x ≡ pageLine pool p (line % 8) → x ≡ contentOf archive pool line spot

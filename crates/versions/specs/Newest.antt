@@ -13,7 +13,7 @@ use Rattle.frames.specs.Circle.{frameAt}
 use Rattle.numbers.specs.declared.Found.{Found}
 use Rattle.numbers.specs.declared.Found.the-variants.{At, Nothing}
 use Rattle.written.specs.Bits.{Written, newestFrom}
-use Rattle.pages.specs.Lines.{pageLine, archiveLine}
+use Rattle.pages.specs.Lines.{pageLine, archiveLine, AsksPage, AsksArchive}
 use Rattle.pages.specs.Table.{entryAt, AsksTable}
 use Rattle.cache.specs.declared.Cache.{Cache}
 use Rattle.cache.specs.declared.Entry.{Entry}
@@ -92,14 +92,9 @@ pub record AsksSpot (lines frames omf line : ℕ) (found : Found) (long : ℕ) :
   pub table-long : frames * (lines / 8) ≤ long
 
 -- and where a version stands.
-pub record AsksContent (lines pages line : ℕ) (spot : Spot) (archive pool : ℕ) : Type 0 where
-  pub lines-by : lines % 8 ≡ 0
-  pub lines-few : lines ≤ 4096
-  pub line-below : line < lines
-  pub pages-few : pages ≤ 4096
-  pub page-below : (p : ℕ) → spot ≡ Page p → p < pages
-  pub archive-long : 16 * lines ≤ archive
-  pub pool-long : 128 * pages ≤ pool
+pub record AsksContent (line : ℕ) (spot : Spot) (archive pool : ℕ) : Type 0 where
+  pub page : (p : ℕ) → spot ≡ Page p → AsksPage p (line % 8) pool
+  pub archived : AsksArchive line archive
 
 -- What is asked to find a line's newest version among the live frames.
 pub record AsksNewest (w : Written) (pages live line : ℕ) (archive pool table : List ℕ) : Type 0 where

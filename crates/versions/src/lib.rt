@@ -63,15 +63,8 @@ pub fn locate(table: &[u16], shape: Shape, pages: u32, line: u32, found: Found) 
 }
 
 // The 16 bytes of the version of a line that stands there.
-pub fn content_at(
-    archive: &[u8],
-    pool: &[u8],
-    shape: Shape,
-    pages: u32,
-    line: u32,
-    spot: Spot,
-) -> [u8; 16]
-    requires { ⌜ AsksContent (shape .lines) pages line spot (length (now archive)) (length (now pool)) ⌝ }
+pub fn content_at(archive: &[u8], pool: &[u8], line: u32, spot: Spot) -> [u8; 16]
+    requires { ⌜ AsksContent line spot (length (now archive)) (length (now pool)) ⌝ }
     ensures { λ r. ⌜ r ≡ contentOf (now (archive .entry)) (now (pool .entry)) line spot ⌝ }
 {
     match spot {
@@ -97,7 +90,7 @@ pub fn newest(
 {
     let found = written::search(groups, history, shape, line, live - 1);
     let at = locate(table, shape, pages, line, found);
-    let content = content_at(archive, pool, shape, pages, line, at);
+    let content = content_at(archive, pool, line, at);
     match found {
         Found::At(i) => {
             let frame = frames::frame_at(shape.frames, shape.omf, i) as u16;

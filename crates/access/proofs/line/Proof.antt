@@ -2,8 +2,8 @@
 use borrow.Author.Needs.{needs}
 use native.Mathlib.Omega.{arith}
 use Rattle.storage.proofs.Admitting.{room-turn, room-lent}
-use Rattle.storage.proofs.Chains.{measured, line-measured, line-spot}
-use Rattle.storage.proofs.Using.{line-refused, line-in-page, line-in-archive, page-asks, archive-asks}
+use Rattle.storage.proofs.Chains.{measured, line-measured, line-spot, line-content}
+use Rattle.storage.proofs.Using.{line-refused, line-in-page, line-in-archive}
 use Rattle.access.proofs.line.Statement.{statement}
 use Rattle.access.proofs.line.Tie as tie
 
@@ -23,7 +23,7 @@ part-result-end : tie.Need-part-result-end
 part-result-end c = search needs
 
 returns : tie.Need-returns
-returns c cache = let t : tie.Then1 = search in line-refused _ _ _ (measured _ _ (t .before .before .measure .ensures) (t .before .admit-line .ensures .0)) (t .if1 .taken)
+returns c _ = let t : tie.Then1 = search in line-refused _ _ _ (measured _ _ (t .before .before .measure .ensures) (t .before .admit-line .ensures .0)) (t .if1 .taken)
 
 live-requires : tie.Need-live-requires
 live-requires c κs = room-turn _ _ (c .before .admit-line .ensures .1 (c .if1 .left) .room)
@@ -58,21 +58,24 @@ page-line-requires : tie.Need-page-line-requires
 page-line-requires c κs =
     let p : tie.After-page = search in
     let s : tie.After-locate = search in
+    let h : tie.After-shape = search in
     let e : tie.Else1 = search in
     let g = line-measured (e .before .before .measure .ensures) (e .before .admit-line .ensures .1 (e .if1 .left)) in
-    page-asks _ _ _ _ _ _ _ _ _ _ (s .locate .ensures) (p .page .given .1) (g .room .pages-to) (g .room .pool-long)
+    line-content _ _ _ g _ _ _ (rw (h .shape .ensures) at (s .locate .ensures)) .page _ (p .page .given .1)
 
 enum-told : tie.Need-enum-told
 enum-told c = search needs
 
 archive-line-requires : tie.Need-archive-line-requires
 archive-line-requires c κs =
+    let s : tie.After-locate = search in
+    let h : tie.After-shape = search in
     let e : tie.Else1 = search in
     let g = line-measured (e .before .before .measure .ensures) (e .before .admit-line .ensures .1 (e .if1 .left)) in
-    archive-asks _ _ _ (g .room .lines-by) (g .room .lines-to) (g .line-below) (g .room .archive-long)
+    line-content _ _ _ g _ _ _ (rw (h .shape .ensures) at (s .locate .ensures)) .archived
 
 returns-2 : tie.Need-returns-2
-returns-2 c cache =
+returns-2 c _ =
     let p : tie.After-page = search in
     let s : tie.After-locate = search in
     let f : tie.After-search = search in
@@ -84,7 +87,7 @@ returns-2 c cache =
     line-in-page _ _ _ told (e .if1 .left) _ (l .live .ensures) _ (rw is at (f .search .ensures)) _ (rw is at (s .locate .ensures)) _ _ (p .page .given .1) (c .page-line .ensures)
 
 returns-3 : tie.Need-returns-3
-returns-3 c cache =
+returns-3 c _ =
     let t : tie.After-enum-told = search in
     let s : tie.After-locate = search in
     let f : tie.After-search = search in

@@ -12,7 +12,7 @@ admit-line-requires : tie.Need-admit-line-requires
 admit-line-requires c κs = search needs
 
 returns : tie.Need-returns
-returns c cache = companion _ _ _ (measured _ _ (c .before .measure .ensures) (c .admit-line .ensures .0))
+returns c _ = companion _ _ _ (measured _ _ (c .before .measure .ensures) (c .admit-line .ensures .0))
 
 pub line-refusal-spec : {M : Type 1} → statement M
 line-refusal-spec = tie.close (tie.spec measure-requires admit-line-requires returns)

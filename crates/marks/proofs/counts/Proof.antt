@@ -15,7 +15,7 @@ admit-requires : tie.Need-admit-requires
 admit-requires c κs = search needs
 
 returns : tie.Need-returns
-returns c = λ cache. counts-refused _ _ (measured _ _ (c .before .before .measure .ensures) (c .before .admit .ensures .0)) (c .if1 .taken)
+returns c = λ _. counts-refused _ _ (measured _ _ (c .before .before .measure .ensures) (c .before .admit .ensures .0)) (c .if1 .taken)
 
 live-requires : tie.Need-live-requires
 live-requires c κs = room-turn _ _ (c .before .admit .ensures .1 (c .if1 .left))
@@ -26,7 +26,7 @@ ring-requires c κs = search needs
 returns-2 : tie.Need-returns-2
 returns-2 c =
     let e : tie.Else1 = search in
-    λ cache.
+    λ _.
     counts-told _ _ (measured _ _ (e .before .before .measure .ensures) (e .before .admit .ensures .0)) (e .if1 .left) _ _ (c .before .live .ensures)
     (ap (λ (r : Ring). r .used) (c .ring .ensures))
 

@@ -7,7 +7,7 @@ use Rattle.trial.proofs.Gone.{taken-back}
 use Rattle.trial.proofs.take_back.Statement.{statement}
 use Rattle.trial.proofs.take_back.Tie as tie
 
--- the places of the calls, each from the next, and what their lists have after them
+-- the places of the calls, each from the next, and the lists after them
 abbrev back-at : tie.After-read → tie.After-rollback
 back-at p = let m = p .before .before .before .before .before .before in m .before .before .before .before .before .before
 

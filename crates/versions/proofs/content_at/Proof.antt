@@ -1,5 +1,5 @@
 -- `versions::content_at` meets its contract. Assumes nothing.
-use Rattle.versions.proofs.Finding.{page-asks, content-page, content-archive}
+use Rattle.versions.proofs.Finding.{content-page, content-archive}
 use borrow.Author.Needs.{needs}
 use Rattle.versions.proofs.content_at.Statement.{statement}
 use Rattle.versions.proofs.content_at.Tie as tie
@@ -8,7 +8,7 @@ enum-known-spot : tie.Need-enum-known-spot
 enum-known-spot c = search needs
 
 read-page-line-requires : tie.Need-read-page-line-requires
-read-page-line-requires c κs = search page-asks
+read-page-line-requires c κs = let s : tie.Start = search in let p : tie.After-spot = search in s .pre .page _ (p .spot .given .1)
 
 enum-told : tie.Need-enum-told
 enum-told c = search needs

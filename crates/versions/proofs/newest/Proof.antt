@@ -17,7 +17,7 @@ locate-requires c κs = let s : tie.Start = search in spot-asks _ _ _ _ _ (s .pr
 content-at-requires : tie.Need-content-at-requires
 content-at-requires c κs =
     let s : tie.Start = search in
-    content-asks _ _ _ _ _ _ _ _ (s .pre .asks) (s .pre .line-below) (s .pre .pages-few) (s .pre .archive-long) (s .pre .pool-long) (c .locate .ensures)
+    content-asks _ _ _ _ _ _ _ _ _ _ (s .pre .asks .lines-by) (s .pre .asks .lent .lines-few) (s .pre .line-below) (s .pre .pages-few) (s .pre .archive-long) (s .pre .pool-long) (c .locate .ensures)
 
 enum-known-found : tie.Need-enum-known-found
 enum-known-found c = search needs

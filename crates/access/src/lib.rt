@@ -14,7 +14,7 @@ ghost use Rattle.rules.specs.Call.Look.{LINE, LINE-REFUSAL};
 ghost use Rattle.written.specs.Bits.{writtenAt};
 ghost use Rattle.versions.specs.Newest.{originOf, newestOf, AsksNewest};
 ghost use Rattle.cache.specs.Entries.{cacheOf};
-ghost use Rattle.cache.specs.Steps.{placed};
+ghost use Rattle.cache.specs.Steps.{placedIn};
 ghost use Rattle.storage.specs.Storage.{memoryOf, shapeAt, stateOf, storageOf};
 ghost use Rattle.storage.specs.Steps.{Put, AsksWrite};
 ghost use Rattle.storage.specs.Contracts.{Writes, Reads, Looks};
@@ -171,7 +171,7 @@ fn load(
 ) -> Version
     requires { ⌜ AsksNewest (writtenAt (shapeAt registers) (now groups) (now history)) (registers .pages) live line (now archive) (now pool) (now table) ⌝ }
     ensures found { λ r. ⌜ r ≡ newestOf (writtenAt (shapeAt registers) (now (groups .entry)) (now (history .entry))) (registers .pages) live (now (archive .entry)) (now (pool .entry)) (now (table .entry)) line ⌝ }
-    ensures held { λ r. ⌜ (cacheOf (now (held .exit)) (now (origins .exit)) (now (valid .exit)) (now (bytes .exit)) (now (last .exit))) ≡ placed (cacheOf (now (held .entry)) (now (origins .entry)) (now (valid .entry)) (now (bytes .entry)) (now (last .entry))) line (r .frame) (r .content) ⌝ }
+    ensures held { λ r. ⌜ (cacheOf (now (held .exit)) (now (origins .exit)) (now (valid .exit)) (now (bytes .exit)) (now (last .exit))) ≡ placedIn (cacheOf (now (held .entry)) (now (origins .entry)) (now (valid .entry)) (now (bytes .entry)) (now (last .entry))) line (r .frame) (r .content) ⌝ }
 {
     let version = versions::newest(
         archive,

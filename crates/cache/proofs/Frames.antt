@@ -12,7 +12,7 @@ use lib.ListN.{getD, List·getD-eq-default}
 use Rattle.rules.specs.Figure3.{unlessGone, forget}
 use Rattle.rules.proofs.Tests.{both-true}
 use Rattle.cache.specs.declared.Cache.{Cache}
-use Rattle.cache.specs.Entries.{Sized, lineOf, frameOf, isValid, bytesOf, All, bytesIn, isValidIn}
+use Rattle.cache.specs.Entries.{Sized, heldLine, heldFrame, isValid, heldBytes, All, bytesIn, isValidIn}
 use Rattle.cache.specs.Steps.{isDropped, flagAfter, flagsAfter, forgotten, frameAfter, framesAfter, collected}
 use Rattle.cache.specs.Shown.{lineIn, shown}
 use Rattle.lists.proofs.Lists.{rewrite-length, rewrite-past, rewrite-at}
@@ -24,15 +24,15 @@ module _ (c : Cache) (s : Sized c) (omf frames n : ℕ) where
   unfolding forgotten flagsAfter
   forgotten-sized =
       record {
-        lines = s .lines;
-        frames = s .frames;
-        valid = rewrite-length (λ e flag. flagAfter omf frames n (frameOf c e) flag) (c .valid) 32 ∙ s .valid;
+        held = s .held;
+        origins = s .origins;
+        valid = rewrite-length (λ e flag. flagAfter omf frames n (heldFrame c e) flag) (c .valid) 32 ∙ s .valid;
         bytes = s .bytes;
         last = s .last;
       }
 
   -- exactly the entries with a dropped frame become invalid
-  pub forgotten-valid : (e : ℕ) → isValid (forgotten c omf frames n) e ≡ (isValid c e && not (isDropped omf frames n (frameOf c e)))
+  pub forgotten-valid : (e : ℕ) → isValid (forgotten c omf frames n) e ≡ (isValid c e && not (isDropped omf frames n (heldFrame c e)))
   unfolding forgotten flagsAfter isValidIn flagAfter
   forgotten-valid e = go (decLt e 32)
     where
@@ -40,18 +40,18 @@ module _ (c : Cache) (s : Sized c) (omf frames n : ℕ) where
       flag true x = sym (and-false (eqb x 1))
       flag false x = sym (and-true (eqb x 1))
 
-      go : Dec (e < 32) → isValid (forgotten c omf frames n) e ≡ (isValid c e && not (isDropped omf frames n (frameOf c e)))
+      go : Dec (e < 32) → isValid (forgotten c omf frames n) e ≡ (isValid c e && not (isDropped omf frames n (heldFrame c e)))
       go (yes b) =
-          ap (λ (x : ℕ). eqb x 1) (rewrite-at (λ e flag. flagAfter omf frames n (frameOf c e) flag) (c .valid) 32 e b (omega (arith, s .valid)))
-          ∙ flag (isDropped omf frames n (frameOf c e)) (getD (c .valid) e 0)
+          ap (λ (x : ℕ). eqb x 1) (rewrite-at (λ e flag. flagAfter omf frames n (heldFrame c e) flag) (c .valid) 32 e b (omega (arith, s .valid)))
+          ∙ flag (isDropped omf frames n (heldFrame c e)) (getD (c .valid) e 0)
       go (no b) =
           let past : getD (c .valid) e 0 ≡ 0 = List·getD-eq-default (c .valid) 0 {n = e} (omega (arith, s .valid)) in
-          ap (λ (x : ℕ). eqb x 1) (rewrite-past (λ e flag. flagAfter omf frames n (frameOf c e) flag) (c .valid) 32 e (omega arith) ∙ past)
-          ∙ sym (ap (λ (x : ℕ). eqb x 1 && not (isDropped omf frames n (frameOf c e))) past)
+          ap (λ (x : ℕ). eqb x 1) (rewrite-past (λ e flag. flagAfter omf frames n (heldFrame c e) flag) (c .valid) 32 e (omega arith) ∙ past)
+          ∙ sym (ap (λ (x : ℕ). eqb x 1 && not (isDropped omf frames n (heldFrame c e))) past)
 
   -- A rollback is Figure 3's, for lines that are gone where the test on their entry's frame says so.
   pub forgotten-shown : (gone : ℕ → Bool)
-      → ((e : ℕ) → e < 32 → isValid c e ≡ true → gone (lineOf c e) ≡ isDropped omf frames n (frameOf c e))
+      → ((e : ℕ) → e < 32 → isValid c e ≡ true → gone (heldLine c e) ≡ isDropped omf frames n (heldFrame c e))
       → shown (forgotten c omf frames n) ≡ forget gone (shown c)
   unfolding shown forget forgotten lineIn unlessGone
   forgotten-shown gone h = fun-ext (λ set. same-ways (way (2 * set)) (way (2 * set + 1)) refl)
@@ -61,31 +61,31 @@ module _ (c : Cache) (s : Sized c) (omf frames n : ℕ) where
       either x false = refl
 
       go : (e : ℕ) (b : Bool) → isValid c e ≡ b
-          → cond (b && not (isDropped omf frames n (frameOf c e))) (some (lineOf c e)) none
-          ≡ unlessGone gone (cond b (some (lineOf c e)) none)
+          → cond (b && not (isDropped omf frames n (heldFrame c e))) (some (heldLine c e)) none
+          ≡ unlessGone gone (cond b (some (heldLine c e)) none)
       go e true v =
           rw (h e (valid-below c e s v) v)
-          (either (some (lineOf c e)) (isDropped omf frames n (frameOf c e)))
+          (either (some (heldLine c e)) (isDropped omf frames n (heldFrame c e)))
       go e false v = refl
 
       way : (e : ℕ) → lineIn (forgotten c omf frames n) e ≡ unlessGone gone (lineIn c e)
       way e =
-          ap (λ (b : Bool). cond b (some (lineOf c e)) none) (forgotten-valid e) ∙ go e (isValid c e) refl
+          ap (λ (b : Bool). cond b (some (heldLine c e)) none) (forgotten-valid e) ∙ go e (isValid c e) refl
 
   pub forgotten-all : (R Q : ℕ → ℕ → List ℕ → Type 0) → All R c
       → ((m g : ℕ) (b : List ℕ) → isDropped omf frames n g ≡ false → R m g b → Q m g b) → All Q (forgotten c omf frames n)
   unfolding forgotten bytesIn
   forgotten-all R Q all kept e v =
-      let both : (isValid c e ≡ true) × (not (isDropped omf frames n (frameOf c e)) ≡ true)
-      = both-true (isValid c e) (not (isDropped omf frames n (frameOf c e))) (sym (forgotten-valid e) ∙ v) in
-      kept (lineOf c e) (frameOf c e) (bytesOf c e) (not-true (isDropped omf frames n (frameOf c e)) (both .1)) (all e (both .0))
+      let both : (isValid c e ≡ true) × (not (isDropped omf frames n (heldFrame c e)) ≡ true)
+      = both-true (isValid c e) (not (isDropped omf frames n (heldFrame c e))) (sym (forgotten-valid e) ∙ v) in
+      kept (heldLine c e) (heldFrame c e) (heldBytes c e) (not-true (isDropped omf frames n (heldFrame c e)) (both .1)) (all e (both .0))
 
   pub collected-sized : Sized (collected c omf frames n)
   unfolding collected framesAfter
   collected-sized =
       record {
-        lines = s .lines;
-        frames = rewrite-length (λ e frame. frameAfter omf frames n frame) (c .frames) 32 ∙ s .frames;
+        held = s .held;
+        origins = rewrite-length (λ e frame. frameAfter omf frames n frame) (c .origins) 32 ∙ s .origins;
         valid = s .valid;
         bytes = s .bytes;
         last = s .last;
@@ -95,14 +95,14 @@ module _ (c : Cache) (s : Sized c) (omf frames n : ℕ) where
   unfolding shown lineIn isValidIn collected
   collected-shown = refl
 
-  pub collected-frame : (e : ℕ) → e < 32 → frameOf (collected c omf frames n) e ≡ frameAfter omf frames n (frameOf c e)
+  pub collected-frame : (e : ℕ) → e < 32 → heldFrame (collected c omf frames n) e ≡ frameAfter omf frames n (heldFrame c e)
   unfolding collected framesAfter
   collected-frame e b =
-      rewrite-at (λ e frame. frameAfter omf frames n frame) (c .frames) 32 e b (omega (arith, s .frames))
+      rewrite-at (λ e frame. frameAfter omf frames n frame) (c .origins) 32 e b (omega (arith, s .origins))
 
   pub collected-all : (R Q : ℕ → ℕ → List ℕ → Type 0) → All R c
       → ((m g : ℕ) (b : List ℕ) → R m g b → Q m (frameAfter omf frames n g) b) → All Q (collected c omf frames n)
   unfolding collected bytesIn isValidIn
   collected-all R Q all kept e v =
       carried Q refl (sym (collected-frame e (valid-below c e s v))) refl
-      (kept (lineOf c e) (frameOf c e) (bytesOf c e) (all e v))
+      (kept (heldLine c e) (heldFrame c e) (heldBytes c e) (all e v))

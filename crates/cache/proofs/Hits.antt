@@ -16,7 +16,7 @@ use Rattle.rules.proofs.Tests.{both-true}
 use Rattle.cache.specs.declared.Cache.{Cache}
 use Rattle.cache.specs.declared.Entry.{Entry}
 use Rattle.cache.specs.declared.Entry.the-variants.{Hit, Miss}
-use Rattle.cache.specs.Entries.{Sized, lineOf, isValid, home, isAt, found, isHit, wayTaken, entryTaken, FoundAt, foundIn, isAtIn, isValidIn, wayIn}
+use Rattle.cache.specs.Entries.{Sized, heldLine, isValid, home, isAt, found, isHit, wayTaken, entryTaken, FoundAt, hitIn, isAtIn, isValidIn, wayIn}
 use Rattle.cache.specs.Shown.{lineIn, wayOf, shown}
 use Rattle.cache.proofs.Returns.{at-line, found-first, found-second, found-none, taken-first, taken-second}
 
@@ -35,26 +35,26 @@ module _ (c : Cache) (e l : ℕ) where
   unfolding isIn lineIn isAtIn
   in-at = go (isValid c e)
     where
-      go : (b : Bool) → isIn l (cond b (some (lineOf c e)) none) ≡ (b && eqb l (lineOf c e))
+      go : (b : Bool) → isIn l (cond b (some (heldLine c e)) none) ≡ (b && eqb l (heldLine c e))
       go true = refl
       go false = refl
 
   pub at-valid : isAt c e l ≡ true → isValid c e ≡ true
   unfolding isAtIn
-  at-valid h = both-true (isValid c e) (eqb l (lineOf c e)) h .0
+  at-valid h = both-true (isValid c e) (eqb l (heldLine c e)) h .0
 
-  pub at-line-is : isAt c e l ≡ true → lineOf c e ≡ l
+  pub at-line-is : isAt c e l ≡ true → heldLine c e ≡ l
   unfolding isAtIn
-  at-line-is h = sym (eqb-true l (lineOf c e) (both-true (isValid c e) (eqb l (lineOf c e)) h .1))
+  at-line-is h = sym (eqb-true l (heldLine c e) (both-true (isValid c e) (eqb l (heldLine c e)) h .1))
 
-  pub at-is : isValid c e ≡ true → lineOf c e ≡ l → isAt c e l ≡ true
-  at-is v h = sym (at-line (c .lines) (c .valid) e l true (sym v) refl h)
+  pub at-is : isValid c e ≡ true → heldLine c e ≡ l → isAt c e l ≡ true
+  at-is v h = sym (at-line (c .held) (c .valid) e l true (sym v) refl h)
 
 pub free-at : (c : Cache) (e : ℕ) → isFree (lineIn c e) ≡ not (isValid c e)
 unfolding isFree lineIn
 free-at c e = go (isValid c e)
   where
-    go : (b : Bool) → isFree (cond b (some (lineOf c e)) none) ≡ not b
+    go : (b : Bool) → isFree (cond b (some (heldLine c e)) none) ≡ not b
     go true = refl
     go false = refl
 
@@ -77,7 +77,7 @@ module _ (c : Cache) (l : ℕ) where
 
   -- `find` hits exactly where Figure 3's cache holds the line
   pub hit-shown : isHit (found c l) ≡ holds (shown c) l
-  unfolding isHit foundIn holds shown
+  unfolding isHit hitIn holds shown
   hit-shown =
       go (isAt c (home l) l) (isAt c (home l + 1) l)
       ∙ ap₂ (λ (y z : Bool). y || z) (sym (in-at c (home l) l)) (sym (in-at c (home l + 1) l))
@@ -120,25 +120,25 @@ module _ (c : Cache) (l : ℕ) where
 
       go : (a b : Bool) → isAt c (home l) l ≡ a → isAt c (home l + 1) l ≡ b → FoundAt c l e
       go true b p q =
-          let d : home l ≡ e = cc (found-first (c .lines) (c .valid) l (isAt c (home l) l) refl p) in
-          is (subst (λ (x : ℕ). isAt c x l ≡ true) d p) (omega (arith, d, taken-first (c .lines) (c .valid) (c .last) l (isAt c (home l) l) refl p))
+          let d : home l ≡ e = cc (found-first (c .held) (c .valid) l (isAt c (home l) l) refl p) in
+          is (subst (λ (x : ℕ). isAt c x l ≡ true) d p) (omega (arith, d, taken-first (c .held) (c .valid) (c .last) l (isAt c (home l) l) refl p))
       go false true p q =
-          let d : home l + 1 ≡ e = cc (found-second (c .lines) (c .valid) l (isAt c (home l) l) refl p (isAt c (home l + 1) l) refl q) in
+          let d : home l + 1 ≡ e = cc (found-second (c .held) (c .valid) l (isAt c (home l) l) refl p (isAt c (home l + 1) l) refl q) in
           is (subst (λ (x : ℕ). isAt c x l ≡ true) d q)
-          (omega (arith, d, taken-second (c .lines) (c .valid) (c .last) l (isAt c (home l) l) refl p (isAt c (home l + 1) l) refl q))
+          (omega (arith, d, taken-second (c .held) (c .valid) (c .last) l (isAt c (home l) l) refl p (isAt c (home l + 1) l) refl q))
       go false false p q =
-          let z : _≡_ {A = ℕ} 0 1 = cc (found-none (c .lines) (c .valid) l (isAt c (home l) l) refl p (isAt c (home l + 1) l) refl q) in
+          let z : _≡_ {A = ℕ} 0 1 = cc (found-none (c .held) (c .valid) l (isAt c (home l) l) refl p (isAt c (home l + 1) l) refl q) in
           absurd (omega arith)
 
   -- In a cache with each line in its set and once, a valid entry that holds the line is the one that a use of it takes.
-  pub line-taken : (s : Settings) (e : ℕ) → WellCache s (shown c) → isValid c e ≡ true → lineOf c e ≡ l → e ≡ entryTaken c l
+  pub line-taken : (s : Settings) (e : ℕ) → WellCache s (shown c) → isValid c e ≡ true → heldLine c e ≡ l → e ≡ entryTaken c l
   unfolding shown lineIn
   line-taken s e q v h = go (ℕ-discrete (e % 2) 0)
     where
       in-way : (x : ℕ) → x ≡ e → lineIn c x ≡ some l
       in-way x d =
           subst (λ (y : ℕ). lineIn c y ≡ some l) (sym d)
-          (ap (λ (b : Bool). cond b (some (lineOf c e)) none) v ∙ ap {B = Option ℕ} some h)
+          (ap (λ (b : Bool). cond b (some (heldLine c e)) none) v ∙ ap {B = Option ℕ} some h)
 
       go : Dec (e % 2 ≡ 0) → e ≡ entryTaken c l
       go (yes d) =
@@ -146,7 +146,7 @@ module _ (c : Cache) (l : ℕ) where
           let here : home l ≡ e = omega arith in
           omega (
             arith,
-            taken-first (c .lines) (c .valid) (c .last) l (isAt c (home l) l) refl (subst (λ (x : ℕ). isAt c x l ≡ true) (sym here) (at-is c e l v h)),
+            taken-first (c .held) (c .valid) (c .last) l (isAt c (home l) l) refl (subst (λ (x : ℕ). isAt c x l ≡ true) (sym here) (at-is c e l v h)),
           )
       go (no d) =
           let set : setOf l ≡ e / 2 = q .second (e / 2) l (in-way (2 * (e / 2) + 1) (omega arith)) .0 in
@@ -158,12 +158,12 @@ module _ (c : Cache) (l : ℕ) where
           other true p own here =
               absurd
               (q .once (setOf l) l
-              (ap (λ (b : Bool). cond b (some (lineOf c (home l))) none) (at-valid c (home l) l p) ∙ ap {B = Option ℕ} some (at-line-is c (home l) l p))
+              (ap (λ (b : Bool). cond b (some (heldLine c (home l))) none) (at-valid c (home l) l p) ∙ ap {B = Option ℕ} some (at-line-is c (home l) l p))
               (in-way (home l + 1) here))
           other false p own here =
-              omega (arith, here, taken-second (c .lines) (c .valid) (c .last) l (isAt c (home l) l) refl p (isAt c (home l + 1) l) refl own)
+              omega (arith, here, taken-second (c .held) (c .valid) (c .last) l (isAt c (home l) l) refl p (isAt c (home l + 1) l) refl own)
 
 -- A hit may be read, in the form in which a caller of `find` has it.
-pub found-below : (lines valid : List ℕ) (l : ℕ) (r : Entry) (e : ℕ) → r ≡ foundIn lines valid l → r ≡ Hit e → e < 32
+pub found-below : (lines valid : List ℕ) (l : ℕ) (r : Entry) (e : ℕ) → r ≡ hitIn lines valid l → r ≡ Hit e → e < 32
 found-below lines valid l r e d h =
-    found-at (record { lines = lines; frames = []; valid = valid; bytes = []; last = [] }) l e (sym d ∙ h) .below
+    found-at (record { held = lines; origins = []; valid = valid; bytes = []; last = [] }) l e (sym d ∙ h) .below

@@ -11,10 +11,10 @@ use Rattle.rules.specs.Figure3.{setOf}
 use Rattle.frames.specs.Circle.{indexOf}
 use Rattle.cache.specs.declared.Cache.{Cache}
 use Rattle.cache.specs.declared.Entry.the-variants.{Hit, Miss}
-use Rattle.cache.specs.Entries.{home, wayTaken, foundIn, isAtIn, isValidIn, wayIn}
+use Rattle.cache.specs.Entries.{home, wayTaken, hitIn, isAtIn, isValidIn, wayIn}
 use Rattle.lists.specs.Lists.{rewrite}
 use Rattle.lists.specs.Lines.{pasteLine}
-use Rattle.cache.specs.Steps.{archiveFrame, placed, isBelow, isDropped, flagAfter, flagsAfter, frameAfter, framesAfter}
+use Rattle.cache.specs.Steps.{archiveFrame, placedIn, isBelow, isDropped, flagAfter, flagsAfter, frameAfter, framesAfter}
 
 module _ (valid : List ℕ) (e : ℕ) where
   pub valid-one : getD valid e 0 ≡ 1 → true ≡ isValidIn valid e
@@ -39,17 +39,17 @@ module _ (lines valid : List ℕ) (e : ℕ) where
   at-other l h = sym (ap (λ (z : Bool). isValidIn valid e && z) (ne-eqb l (getD lines e 0) (λ d. h (sym d))) ∙ and-false (isValidIn valid e))
 
 module _ (lines valid : List ℕ) (l : ℕ) (b : Bool) (first : b ≡ isAtIn lines valid (home l) l) where
-  pub found-first : b ≡ true → Hit (home l) ≡ foundIn lines valid l
-  unfolding foundIn
+  pub found-first : b ≡ true → Hit (home l) ≡ hitIn lines valid l
+  unfolding hitIn
   found-first t = rw (sym first ∙ t)
 
   module _ (f : b ≡ false) (d : Bool) (second : d ≡ isAtIn lines valid (home l + 1) l) where
-    pub found-second : d ≡ true → Hit (home l + 1) ≡ foundIn lines valid l
-    unfolding foundIn
+    pub found-second : d ≡ true → Hit (home l + 1) ≡ hitIn lines valid l
+    unfolding hitIn
     found-second t = rw (sym first ∙ f, sym second ∙ t)
 
-    pub found-none : d ≡ false → Miss ≡ foundIn lines valid l
-    unfolding foundIn
+    pub found-none : d ≡ false → Miss ≡ hitIn lines valid l
+    unfolding hitIn
     found-none g = rw (sym first ∙ f, sym second ∙ g)
 
 module _ (lines valid last : List ℕ) (l : ℕ) (b : Bool) (first : b ≡ isAtIn lines valid (home l) l) where
@@ -124,10 +124,10 @@ entry-room bytes entry long h = omega arith
 
 -- the arrays after a use of a line
 pub placed-done : (c : Cache) (line frame way : ℕ) (content lines frames valid bytes last : List ℕ) → (way ≡ wayTaken c line) × (way < 2)
-    → lines ≡ set (c .lines) (home line + way) line → frames ≡ set (c .frames) (home line + way) frame → valid ≡ set (c .valid) (home line + way) 1
+    → lines ≡ set (c .held) (home line + way) line → frames ≡ set (c .origins) (home line + way) frame → valid ≡ set (c .valid) (home line + way) 1
     → bytes ≡ pasteLine (c .bytes) (16 * (home line + way)) content → last ≡ set (c .last) (setOf line) way
-    → record { lines = lines; frames = frames; valid = valid; bytes = bytes; last = last } ≡ placed c line frame content
-unfolding placed
+    → record { held = lines; origins = frames; valid = valid; bytes = bytes; last = last } ≡ placedIn c line frame content
+unfolding placedIn
 placed-done c line frame way content lines frames valid bytes last w el ef ev eb ea = cc (w .0, el, ef, ev, eb, ea)
 
 -- the loops' ends

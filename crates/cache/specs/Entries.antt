@@ -13,22 +13,22 @@ use Rattle.cache.specs.declared.Entry.the-variants.{Hit, Miss}
 
 -- The lengths of the cache's arrays. Code has them of every cache; a law on lists asks for them.
 pub record Sized (c : Cache) : Type 0 where
-  pub lines : length (c .lines) ≡ 32
-  pub frames : length (c .frames) ≡ 32
+  pub held : length (c .held) ≡ 32
+  pub origins : length (c .origins) ≡ 32
   pub valid : length (c .valid) ≡ 32
   pub bytes : length (c .bytes) ≡ 512
   pub last : length (c .last) ≡ 16
 
 -- A cache by its arrays, in the order of the functions' parameters.
 abbrev pub cacheOf : (held origins valid bytes last : List ℕ) → Cache
-cacheOf held origins valid bytes last = record { lines = held; frames = origins; valid = valid; bytes = bytes; last = last }
+cacheOf held origins valid bytes last = record { held = held; origins = origins; valid = valid; bytes = bytes; last = last }
 
 -- What an entry has: its line, the frame of the line's most recent version, whether it is valid, its 16 bytes.
-abbrev pub lineOf : Cache → ℕ → ℕ
-lineOf c e = getD (c .lines) e 0
+abbrev pub heldLine : Cache → ℕ → ℕ
+heldLine c e = getD (c .held) e 0
 
-abbrev pub frameOf : Cache → ℕ → ℕ
-frameOf c e = getD (c .frames) e 0
+abbrev pub heldFrame : Cache → ℕ → ℕ
+heldFrame c e = getD (c .origins) e 0
 
 unfoldable pub isValidIn : (valid : List ℕ) → ℕ → Bool
 isValidIn valid e = eqb (getD valid e 0) 1
@@ -39,8 +39,8 @@ isValid c e = isValidIn (c .valid) e
 unfoldable pub bytesIn : (bytes : List ℕ) → ℕ → List ℕ
 bytesIn bytes e = lineAt bytes (16 * e)
 
-abbrev pub bytesOf : Cache → ℕ → List ℕ
-bytesOf c e = bytesIn (c .bytes) e
+abbrev pub heldBytes : Cache → ℕ → List ℕ
+heldBytes c e = bytesIn (c .bytes) e
 
 -- The entry of way 0 of a line's set. That of way 1 is the next.
 abbrev pub home : ℕ → ℕ
@@ -51,15 +51,15 @@ unfoldable pub isAtIn : (lines valid : List ℕ) → (entry line : ℕ) → Bool
 isAtIn lines valid e l = isValidIn valid e && eqb l (getD lines e 0)
 
 abbrev pub isAt : Cache → ℕ → ℕ → Bool
-isAt c e l = isAtIn (c .lines) (c .valid) e l
+isAt c e l = isAtIn (c .held) (c .valid) e l
 
 -- The entry that holds a line.
-unfoldable pub foundIn : (lines valid : List ℕ) → ℕ → Entry
-foundIn lines valid l =
+unfoldable pub hitIn : (lines valid : List ℕ) → ℕ → Entry
+hitIn lines valid l =
     cond (isAtIn lines valid (home l) l) (Hit (home l)) (cond (isAtIn lines valid (home l + 1) l) (Hit (home l + 1)) Miss)
 
 abbrev pub found : Cache → ℕ → Entry
-found c l = foundIn (c .lines) (c .valid) l
+found c l = hitIn (c .held) (c .valid) l
 
 -- Whether there is one.
 unfoldable pub isHit : Entry → Bool
@@ -77,7 +77,7 @@ wayIn lines valid last l =
     (cond (eqb (getD last (setOf l) 0) 0) 1 0))))
 
 abbrev pub wayTaken : Cache → ℕ → ℕ
-wayTaken c l = wayIn (c .lines) (c .valid) (c .last) l
+wayTaken c l = wayIn (c .held) (c .valid) (c .last) l
 
 -- and its entry.
 abbrev pub entryTaken : Cache → ℕ → ℕ
@@ -86,7 +86,7 @@ entryTaken c l = home l + wayTaken c l
 -- The entry in which `found` finds a line.
 pub record FoundAt (c : Cache) (l e : ℕ) : Type 0 where
   pub valid : isValid c e ≡ true
-  pub line : lineOf c e ≡ l
+  pub line : heldLine c e ≡ l
   pub set : e / 2 ≡ setOf l
   pub below : e < 32
   pub taken : e ≡ entryTaken c l
@@ -94,17 +94,17 @@ pub record FoundAt (c : Cache) (l e : ℕ) : Type 0 where
 -- A valid entry with this line, frame and bytes.
 pub record Has (c : Cache) (e line frame : ℕ) (bytes : List ℕ) : Type 0 where
   pub valid : isValid c e ≡ true
-  pub line-is : lineOf c e ≡ line
-  pub frame-is : frameOf c e ≡ frame
-  pub bytes-are : bytesOf c e ≡ bytes
+  pub line-is : heldLine c e ≡ line
+  pub frame-is : heldFrame c e ≡ frame
+  pub bytes-are : heldBytes c e ≡ bytes
 
 -- An entry that two caches have alike.
 pub record SameAt (e : ℕ) (a b : Cache) : Type 0 where
   pub valid : isValid a e ≡ isValid b e
-  pub line : lineOf a e ≡ lineOf b e
-  pub frame : frameOf a e ≡ frameOf b e
-  pub bytes : bytesOf a e ≡ bytesOf b e
+  pub line : heldLine a e ≡ heldLine b e
+  pub frame : heldFrame a e ≡ heldFrame b e
+  pub bytes : heldBytes a e ≡ heldBytes b e
 
 -- What is true of every valid entry's line, frame and bytes.
 abbrev pub All : (ℕ → ℕ → List ℕ → Type 0) → Cache → Type 0
-All R c = (e : ℕ) → isValid c e ≡ true → R (lineOf c e) (frameOf c e) (bytesOf c e)
+All R c = (e : ℕ) → isValid c e ≡ true → R (heldLine c e) (heldFrame c e) (heldBytes c e)

@@ -8,11 +8,11 @@ use Rattle.rules.specs.Figure3 as figure
 use Rattle.rules.specs.Figure3.{Way}
 use Rattle.rules.specs.Figure3.Way.{way0, way1}
 use Rattle.cache.specs.declared.Cache.{Cache}
-use Rattle.cache.specs.Entries.{lineOf, isValid}
+use Rattle.cache.specs.Entries.{heldLine, isValid}
 
 -- The line of a way: that of its entry, if it is valid.
 unfoldable pub lineIn : Cache → ℕ → Option ℕ
-lineIn c e = cond (isValid c e) (some (lineOf c e)) none
+lineIn c e = cond (isValid c e) (some (heldLine c e)) none
 
 -- Any number but 0 is way 1.
 unfoldable pub wayOf : ℕ → Way

@@ -18,15 +18,15 @@ archiveFrame = 65535
 -- RESET: "cache empty".
 unfoldable pub emptied : Cache
 emptied =
-    record { lines = replicate 32 0; frames = replicate 32 0; valid = replicate 32 0; bytes = replicate 512 0; last = replicate 16 0 }
+    record { held = replicate 32 0; origins = replicate 32 0; valid = replicate 32 0; bytes = replicate 512 0; last = replicate 16 0 }
 
 -- A use of a line, by a read or a write, hit or miss: its way has the line with this frame and these bytes. "the way taken becomes
 -- most recently used", "A hit moves its way to most recently used", "It is write-through".
-unfoldable pub placed : Cache → (line frame : ℕ) → List ℕ → Cache
-placed c line frame bytes =
+unfoldable pub placedIn : Cache → (line frame : ℕ) → List ℕ → Cache
+placedIn c line frame bytes =
     record {
-      lines = set (c .lines) (entryTaken c line) line;
-      frames = set (c .frames) (entryTaken c line) frame;
+      held = set (c .held) (entryTaken c line) line;
+      origins = set (c .origins) (entryTaken c line) frame;
       valid = set (c .valid) (entryTaken c line) 1;
       bytes = pasteLine (c .bytes) (16 * entryTaken c line) bytes;
       last = set (c .last) (setOf line) (wayTaken c line);
@@ -50,10 +50,10 @@ unfoldable pub flagsAfter : (origins : List ℕ) → (omf frames kept : ℕ) →
 flagsAfter origins omf frames kept valid = rewrite 32 (λ e flag. flagAfter omf frames kept (getD origins e 0) flag) valid
 
 abbrev pub withFlags : Cache → (valid : List ℕ) → Cache
-withFlags c valid = cacheOf (c .lines) (c .frames) valid (c .bytes) (c .last)
+withFlags c valid = cacheOf (c .held) (c .origins) valid (c .bytes) (c .last)
 
 unfoldable pub forgotten : Cache → (omf frames kept : ℕ) → Cache
-forgotten c omf frames kept = withFlags c (flagsAfter (c .frames) omf frames kept (c .valid))
+forgotten c omf frames kept = withFlags c (flagsAfter (c .origins) omf frames kept (c .valid))
 
 -- The frame number of an entry after an advance over k frames: "Lines collected by ADVANCE keep their entries and count as archive."
 unfoldable pub frameAfter : (omf frames k frame : ℕ) → ℕ
@@ -64,7 +64,7 @@ unfoldable pub framesAfter : (omf frames k : ℕ) → (origins : List ℕ) → L
 framesAfter omf frames k origins = rewrite 32 (λ e frame. frameAfter omf frames k frame) origins
 
 abbrev pub withOrigins : Cache → (origins : List ℕ) → Cache
-withOrigins c origins = cacheOf (c .lines) origins (c .valid) (c .bytes) (c .last)
+withOrigins c origins = cacheOf (c .held) origins (c .valid) (c .bytes) (c .last)
 
 unfoldable pub collected : Cache → (omf frames k : ℕ) → Cache
-collected c omf frames k = withOrigins c (framesAfter omf frames k (c .frames))
+collected c omf frames k = withOrigins c (framesAfter omf frames k (c .origins))

@@ -7,17 +7,17 @@ ghost use lib.ListN.{length, getD};
 ghost use Rattle.rules.specs.Figure3.{emptyCache};
 ghost use Rattle.frames.specs.Circle.{Turn};
 ghost use Rattle.lists.specs.Lines.{pasteLine};
-ghost use Rattle.cache.specs.Entries.{cacheOf, isValidIn, bytesIn, bytesOf, isAtIn, foundIn, wayIn};
-ghost use Rattle.cache.specs.Steps.{emptied, placed, isBelow, flagAfter, flagsAfter, frameAfter, framesAfter};
+ghost use Rattle.cache.specs.Entries.{cacheOf, isValidIn, bytesIn, heldBytes, isAtIn, hitIn, wayIn};
+ghost use Rattle.cache.specs.Steps.{emptied, placedIn, isBelow, flagAfter, flagsAfter, frameAfter, framesAfter};
 ghost use Rattle.cache.specs.Shown.{shown};
 
 // The entry of a set's way is 2 * set + way.
 #[repr(C)]
 pub struct Cache {
     // the line that the entry holds
-    pub lines: [u32; 32],
+    pub held: [u32; 32],
     // the frame of the line's most recent version, or ARCHIVE
-    pub frames: [u16; 32],
+    pub origins: [u16; 32],
     // 1 for a valid entry
     pub valid: [u8; 32],
     // 16 for each entry
@@ -38,14 +38,14 @@ pub enum Entry {
 pub fn empty() -> Cache
     ensures { λ r. ⌜ (r ≡ emptied) × (shown r ≡ emptyCache) ⌝ }
 {
-    let lines = [0u32; 32];
-    let frames = [0u16; 32];
+    let held = [0u32; 32];
+    let origins = [0u16; 32];
     let valid = [0u8; 32];
     let bytes = [0u8; 512];
     let last = [0u8; 16];
     Cache {
-        lines,
-        frames,
+        held,
+        origins,
         valid,
         bytes,
         last,
@@ -65,46 +65,46 @@ fn is_valid(valid: &[u8; 32], entry: u32) -> bool
 }
 
 // Whether an entry is valid and holds the line.
-fn is_at<'a>(lines: &'a [u32; 32], valid: &'a [u8; 32], entry: u32, line: u32) -> bool
+fn is_at<'a>(held: &'a [u32; 32], valid: &'a [u8; 32], entry: u32, line: u32) -> bool
     requires { ⌜ entry < 32 ⌝ }
-    ensures { λ r. ⌜ r ≡ isAtIn (now (lines .entry)) (now (valid .entry)) entry line ⌝ }
+    ensures { λ r. ⌜ r ≡ isAtIn (now (held .entry)) (now (valid .entry)) entry line ⌝ }
 {
     if !is_valid(valid, entry) {
         return false;
     }
     let at = entry as usize;
-    if lines[at] == line {
+    if held[at] == line {
         return true;
     }
     false
 }
 
 // The entry of the line's set that is valid and holds the line, way 0 first.
-pub fn find<'a>(lines: &'a [u32; 32], valid: &'a [u8; 32], line: u32) -> Entry
-    ensures { λ r. ⌜ r ≡ foundIn (now (lines .entry)) (now (valid .entry)) line ⌝ }
+pub fn find<'a>(held: &'a [u32; 32], valid: &'a [u8; 32], line: u32) -> Entry
+    ensures { λ r. ⌜ r ≡ hitIn (now (held .entry)) (now (valid .entry)) line ⌝ }
 {
     let first = 2 * (line % 16);
     let second = first + 1;
-    if is_at(lines, valid, first, line) {
+    if is_at(held, valid, first, line) {
         return Entry::Hit(first);
     }
-    if is_at(lines, valid, second, line) {
+    if is_at(held, valid, second, line) {
         return Entry::Hit(second);
     }
     Entry::Miss
 }
 
 // The way that a use of a line takes, hit or miss.
-pub fn way_for<'a>(lines: &'a [u32; 32], valid: &'a [u8; 32], last: &'a [u8; 16], line: u32) -> u32
-    ensures { λ r. ⌜ (r ≡ wayIn (now (lines .entry)) (now (valid .entry)) (now (last .entry)) line) × (r < 2) ⌝ }
+pub fn way_for<'a>(held: &'a [u32; 32], valid: &'a [u8; 32], last: &'a [u8; 16], line: u32) -> u32
+    ensures { λ r. ⌜ (r ≡ wayIn (now (held .entry)) (now (valid .entry)) (now (last .entry)) line) × (r < 2) ⌝ }
 {
     let set = line % 16;
     let first = 2 * set;
     let second = first + 1;
-    if is_at(lines, valid, first, line) {
+    if is_at(held, valid, first, line) {
         return 0;
     }
-    if is_at(lines, valid, second, line) {
+    if is_at(held, valid, second, line) {
         return 1;
     }
     if !is_valid(valid, first) {
@@ -139,36 +139,36 @@ pub fn line_at(bytes: &[u8; 512], entry: u32) -> [u8; 16]
 // The same of a whole cache.
 pub fn bytes_of(cache: Cache, entry: u32) -> [u8; 16]
     requires { ⌜ entry < 32 ⌝ }
-    ensures { λ r. ⌜ r ≡ bytesOf cache entry ⌝ }
+    ensures { λ r. ⌜ r ≡ heldBytes cache entry ⌝ }
 {
     line_at(&cache.bytes, entry)
 }
 
 // The frame of an entry.
-pub fn frame_of(frames: &[u16; 32], entry: u32) -> u16
+pub fn frame_of(origins: &[u16; 32], entry: u32) -> u16
     requires { ⌜ entry < 32 ⌝ }
-    ensures { λ r. ⌜ r ≡ getD (now (frames .entry)) entry 0 ⌝ }
+    ensures { λ r. ⌜ r ≡ getD (now (origins .entry)) entry 0 ⌝ }
 {
     let at = entry as usize;
-    frames[at]
+    origins[at]
 }
 
 // Gives an entry its line,
-fn set_line(lines: &mut [u32; 32], entry: u32, line: u32)
+fn set_line(held: &mut [u32; 32], entry: u32, line: u32)
     requires { ⌜ entry < 32 ⌝ }
-    ensures { λ _. ⌜ now (lines .exit) ≡ ListN.set (now (lines .entry)) entry line ⌝ }
+    ensures { λ _. ⌜ now (held .exit) ≡ ListN.set (now (held .entry)) entry line ⌝ }
 {
     let at = entry as usize;
-    lines[at] = line;
+    held[at] = line;
 }
 
 // the frame of its line's most recent version,
-fn set_frame(frames: &mut [u16; 32], entry: u32, frame: u16)
+fn set_frame(origins: &mut [u16; 32], entry: u32, frame: u16)
     requires { ⌜ entry < 32 ⌝ }
-    ensures { λ _. ⌜ now (frames .exit) ≡ ListN.set (now (frames .entry)) entry frame ⌝ }
+    ensures { λ _. ⌜ now (origins .exit) ≡ ListN.set (now (origins .entry)) entry frame ⌝ }
 {
     let at = entry as usize;
-    frames[at] = frame;
+    origins[at] = frame;
 }
 
 // its valid flag
@@ -211,7 +211,7 @@ pub fn place(
     content: [u8; 16],
 )
     ensures { λ _. ⌜ cacheOf (now (held .exit)) (now (origins .exit)) (now (valid .exit)) (now (bytes .exit)) (now (last .exit))
-        ≡ placed (cacheOf (now (held .entry)) (now (origins .entry)) (now (valid .entry)) (now (bytes .entry)) (now (last .entry))) line frame content ⌝ }
+        ≡ placedIn (cacheOf (now (held .entry)) (now (origins .entry)) (now (valid .entry)) (now (bytes .entry)) (now (last .entry))) line frame content ⌝ }
 {
     let way = way_for(held, valid, last, line);
     let set = line % 16;

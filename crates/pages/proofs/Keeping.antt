@@ -14,7 +14,7 @@ use lib.ListN.{length, getD, set}
 use Rattle.rules.proofs.Tests.{both-true}
 use Rattle.frames.specs.Circle.{indexOf, frameAt}
 use Rattle.frames.proofs.Circle.{frame-below, index-below, index-frame, frame-index}
-use Rattle.written.specs.Bits.{Written, Lent, Asks, effective}
+use Rattle.written.specs.Bits.{Written, AsksWritten, Asks, effective}
 use Rattle.written.specs.Steps.{RolledBack}
 use Rattle.written.specs.Well.{WellBits}
 use Rattle.written.proofs.Setting.{set-effective, after}
@@ -65,7 +65,7 @@ module _ (w : Written) (tag kept live : ℕ) (q : WellBits w tag live) (groups h
       kept-ring (neededAt w) (neededAt back) (placesOf w) pages first used left kept _ _ _ o (found .exact (o .rising)) rolled-only rolled-keeps
 
 -- ADVANCE: those needed before with an index from k on, which goes down by k.
-module _ (w : Written) (lent : Lent w) (k : ℕ) (below : k < w .frames) (groups : List ℕ) (c : Collected w k groups) where
+module _ (w : Written) (lent : AsksWritten w) (k : ℕ) (below : k < w .frames) (groups : List ℕ) (c : Collected w k groups) where
   abbrev on : Written
   on = advanced w lent k below groups c
 

@@ -8,7 +8,7 @@ use lib.Dec.{ltb}
 use lib.ListN.{length}
 use Rattle.rules.specs.Seen.{needs}
 use Rattle.frames.specs.Circle.{indexOf}
-use Rattle.written.specs.Bits.{Written, Lent, effective}
+use Rattle.written.specs.Bits.{Written, AsksWritten, effective}
 
 -- "A page holds 8 neighbouring lines of one frame": a place is a frame and a block of 8 lines, frame × 512 + block. An owner is the place
 -- of its page.
@@ -43,7 +43,7 @@ pub record AsksEntry (lines frame block long : ℕ) : Type 0 where
   pub entry-below : entryAt lines frame block < long
 
 pub record AsksTable (w : Written) (table : List ℕ) : Type 0 where
-  pub lent : Lent w
+  pub lent : AsksWritten w
   pub lines-by : w .lines % 8 ≡ 0
   pub lines-from : 8 ≤ w .lines
   pub table-long : entriesOf w ≤ length table

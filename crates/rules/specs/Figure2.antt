@@ -4,7 +4,7 @@ use Prim.Native.Nat.{ℕ, zero, suc, _+_, _-_, _/_, _%_}
 use mathlib.Core.Bool.{Bool, true, false, cond}
 use mathlib.Core.Option.{Option, none, some, Option·getD}
 use lib.Dec.{ltb, eqb}
-use Rattle.rules.specs.Settings.{Settings}
+use Rattle.rules.specs.Settings.{Settings, circle}
 use Rattle.rules.specs.Line.{Line, Memory, zeros, edit, lineOf, offsetOf}
 use Rattle.rules.specs.Call.{Act, Place}
 use Rattle.rules.specs.Call.Place.{in-frame, in-archive}
@@ -91,9 +91,9 @@ unfoldable pub registersStep : Act → Registers → Figure → Registers
 registersStep (READ w a) r f = r
 registersStep (LOOK q) r f = r
 registersStep (CHANGE (WRITE w a v)) r f = r
-registersStep (CHANGE MARK) r f = movedTo ((r .cmf + 1) % r .settings .frames) (r .omf) r
-registersStep (CHANGE (ROLLBACK k)) r f = movedTo ((r .cmf + r .settings .frames - k) % r .settings .frames) (r .omf) r
-registersStep (CHANGE (ADVANCE k)) r f = movedTo (r .cmf) ((r .omf + k) % r .settings .frames) r
+registersStep (CHANGE MARK) r f = movedTo ((r .cmf + 1) % circle (r .settings)) (r .omf) r
+registersStep (CHANGE (ROLLBACK k)) r f = movedTo ((r .cmf + circle (r .settings) - k) % circle (r .settings)) (r .omf) r
+registersStep (CHANGE (ADVANCE k)) r f = movedTo (r .cmf) ((r .omf + k) % circle (r .settings)) r
 
 -- What there is to see of Figure 2.
 unfoldable pub figureSeen : Settings → Figure → Seen

@@ -6,7 +6,7 @@ use mathlib.Core.Bool.{Bool, true, false, cond, _||_}
 use mathlib.Core.List.{List, [], _∷_}
 use lib.ListN.{length, take, drop}
 use lib.Dec.{eqb}
-use Rattle.rules.specs.Settings.{Settings, Pieces}
+use Rattle.rules.specs.Settings.{Settings, Pieces, circle}
 use Rattle.rules.specs.Line.{Memory, IsLine, zeros, edit, lineOf, offsetOf}
 use Rattle.rules.specs.Call.{Act, Call, Place, Answer, refused}
 use Rattle.rules.specs.Call.Place.{in-frame, in-archive}
@@ -121,7 +121,7 @@ Acceptable s w = writeRefusal s (w .width) (w .address) (w .value) 0 ≡ 0
 -- needed than there are.
 pub record Surviving (p : Plain) : Type 0 where
   pub some-group : 0 < length (p .groups)
-  pub in-circle : length (p .groups) ≤ p .settings .frames
+  pub in-circle : length (p .groups) ≤ circle (p .settings)
   pub writes : Each (Each (Acceptable (p .settings))) (p .groups)
   pub base-line : (l : ℕ) → IsLine (p .base l)
   pub base-lines : (l : ℕ) → p .settings .lines ≤ l → p .base l ≡ zeros

@@ -6,7 +6,7 @@ use mathlib.Core.Logic.{_≢_}
 use mathlib.Core.Bool.{Bool, true, false}
 use mathlib.Core.Option.{none, some}
 use mathlib.Core.List.{List, [], _∷_}
-use Rattle.rules.specs.Settings.{Settings, Pieces, elements}
+use Rattle.rules.specs.Settings.{Settings, Pieces, elements, circle}
 use Rattle.rules.specs.Line.{Line, IsLine, zeros}
 use Rattle.rules.specs.Call.{Look, Act, Call, Answer, refused}
 use Rattle.rules.specs.Call.Place.{in-archive}
@@ -25,7 +25,7 @@ use Rattle.rules.specs.Figure2.{Figure, initial, figureStep, figureSeen,
 -- in the archive past the L lines, and no more pages needed than there are.
 pub record WellFigure (s : Settings) (f : Figure) : Type 0 where
   pub some-live : 0 < f .live
-  pub in-circle : f .live ≤ s .frames
+  pub in-circle : f .live ≤ circle s
   pub only-live : (j l : ℕ) → f .live ≤ j → f .frame j l ≡ none
   pub only-lines : (j l : ℕ) → s .lines ≤ l → f .frame j l ≡ none
   pub line : (j l : ℕ) (x : Line) → f .frame j l ≡ some x → IsLine x

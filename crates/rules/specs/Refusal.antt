@@ -3,7 +3,7 @@
 use Prim.Native.Nat.{ℕ, _+_, _-_, _*_, _%_, _^_}
 use mathlib.Core.Bool.{Bool, true, false, not, _&&_, _||_}
 use lib.Dec.{leb, ltb, eqb}
-use Rattle.rules.specs.Settings.{Settings, Pieces, within, enough}
+use Rattle.rules.specs.Settings.{Settings, Pieces, within, enough, circle}
 use Rattle.rules.specs.Line.{lineOf, blockOf}
 use Rattle.rules.specs.Registers.{Registers, liveFrames, stateFits}
 use Rattle.rules.specs.Seen.{Seen}
@@ -77,7 +77,7 @@ actRefusal g lacking (LOOK (LINE l)) = lineRefusal (g .settings) l
 actRefusal g lacking (LOOK (LINE-REFUSAL l)) = lineRefusal (g .settings) l
 actRefusal g lacking (LOOK COUNTS) = 0
 actRefusal g lacking (CHANGE (WRITE w a x)) = writeRefusal (g .settings) w a x (unless (not lacking) 13 0)
-actRefusal g lacking (CHANGE MARK) = unless (ltb (g .live) (g .settings .frames)) 12 0
+actRefusal g lacking (CHANGE MARK) = unless (ltb (g .live) (circle (g .settings))) 12 0
 actRefusal g lacking (CHANGE (ROLLBACK k)) = markedRefusal (g .live) k
 actRefusal g lacking (CHANGE (ADVANCE k)) = markedRefusal (g .live) k
 

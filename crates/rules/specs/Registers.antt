@@ -3,7 +3,7 @@
 use Prim.Native.Nat.{ℕ, _+_, _-_, _%_}
 use mathlib.Core.Bool.{Bool, _&&_}
 use lib.Dec.{ltb}
-use Rattle.rules.specs.Settings.{Settings, within}
+use Rattle.rules.specs.Settings.{Settings, within, circle}
 
 -- The settings, and where the ends of the stack stand: "CMF is the current frame and OMF the oldest."
 pub record Registers : Type 0 where
@@ -17,11 +17,11 @@ liveBetween frames cmf omf = (cmf + frames - omf) % frames + 1
 
 -- and by the registers.
 abbrev pub liveFrames : Registers → ℕ
-liveFrames r = liveBetween (r .settings .frames) (r .cmf) (r .omf)
+liveFrames r = liveBetween (circle (r .settings)) (r .cmf) (r .omf)
 
 -- The opposite of "The state given holds settings outside their limits, or a CMF or OMF outside 0 to F − 1."
 unfoldable pub stateFits : Registers → Bool
-stateFits r = within (r .settings) && (ltb (r .cmf) (r .settings .frames) && ltb (r .omf) (r .settings .frames))
+stateFits r = within (r .settings) && (ltb (r .cmf) (circle (r .settings)) && ltb (r .omf) (circle (r .settings)))
 
 -- After RESET. Figure 2's INIT: "CMF:=0; OMF:=0".
 unfoldable pub atStart : Settings → Registers

@@ -10,6 +10,10 @@ pub record Settings : Type 0 where
   pub frames : ℕ
   pub pages : ℕ
 
+-- "F frames used in a circle": the frames round it.
+abbrev pub circle : Settings → ℕ
+circle s = s .frames
+
 -- "L is a multiple of 8 from 8 to 4,096. F is a multiple of 16 from 16 to 256 .. P is 1 to 4,096."
 unfoldable pub within : Settings → Bool
 within s =

@@ -17,7 +17,7 @@ use Rattle.rules.proofs.Settings.{within-good}
 use Rattle.rules.proofs.Chain.{passed}
 use Rattle.rules.proofs.Registers.{Fits, fits-facts, live-some, live-at-most}
 use Rattle.frames.specs.Circle.{Turn}
-use Rattle.written.specs.Bits.{writtenOf, Lent}
+use Rattle.written.specs.Bits.{writtenOf, AsksWritten}
 use Rattle.pages.specs.Table.{AsksTable}
 use Rattle.pages.specs.Ring.{AsksRing}
 use Rattle.versions.specs.Newest.{AsksNewest}
@@ -201,7 +201,7 @@ module _ (s : Registers) (p : Pieces) (r : Room s p) where
 
 module _ (s : Registers) (archive pool table owners : ℕ) (groups history : List ℕ)
     (r : Room s (record { archive = archive; pool = pool; groups = length groups; table = table; owners = owners; history = length history })) where
-  pub room-lent : Lent (writtenOf (s .settings .lines) (s .settings .frames) (s .omf) groups history)
+  pub room-lent : AsksWritten (writtenOf (s .settings .lines) (s .settings .frames) (s .omf) groups history)
   room-lent =
       record {
         lines-some = omega (arith, r .lines-from);

@@ -29,7 +29,7 @@ use Rattle.written.specs.Well.{WellBits}
 use Rattle.pages.specs.Lines.{archiveLine}
 use Rattle.pages.specs.Ring.{WellRing}
 use Rattle.cache.specs.declared.Cache.{Cache}
-use Rattle.cache.specs.Entries.{Sized, All, lineOf, isValid}
+use Rattle.cache.specs.Entries.{Sized, All, heldLine, isValid}
 use Rattle.cache.specs.Shown.{lineIn, shown}
 use Rattle.versions.specs.declared.Version.{Version}
 use Rattle.versions.specs.Newest.{pageOf, newestOf}
@@ -44,16 +44,16 @@ use Rattle.storage.proofs.Figures.{frame-live, frame-past, frame-at, ar
 use Rattle.storage.proofs.Reading.{Findable, well-findable, page-known, newest-told}
 
 -- A valid entry of a well-formed cache has a line below L.
-entry-below : (s : Settings) (c : Cache) (e : ℕ) → WellCache s (shown c) → isValid c e ≡ true → lineOf c e < s .lines
+entry-below : (s : Settings) (c : Cache) (e : ℕ) → WellCache s (shown c) → isValid c e ≡ true → heldLine c e < s .lines
 unfolding shown lineIn
 entry-below s c e q v = go (ℕ-discrete (e % 2) 0)
   where
-    in-way : (x : ℕ) → x ≡ e → lineIn c x ≡ some (lineOf c e)
-    in-way x d = subst (λ (y : ℕ). lineIn c y ≡ some (lineOf c e)) (sym d) (ap (λ (b : Bool). cond b (some (lineOf c e)) none) v)
+    in-way : (x : ℕ) → x ≡ e → lineIn c x ≡ some (heldLine c e)
+    in-way x d = subst (λ (y : ℕ). lineIn c y ≡ some (heldLine c e)) (sym d) (ap (λ (b : Bool). cond b (some (heldLine c e)) none) v)
 
-    go : Dec (e % 2 ≡ 0) → lineOf c e < s .lines
-    go (yes d) = q .first (e / 2) (lineOf c e) (in-way (2 * (e / 2)) (omega arith)) .1
-    go (no d) = q .second (e / 2) (lineOf c e) (in-way (2 * (e / 2) + 1) (omega arith)) .1
+    go : Dec (e % 2 ≡ 0) → heldLine c e < s .lines
+    go (yes d) = q .first (e / 2) (heldLine c e) (in-way (2 * (e / 2)) (omega arith)) .1
+    go (no d) = q .second (e / 2) (heldLine c e) (in-way (2 * (e / 2) + 1) (omega arith)) .1
 
 -- What the tests ask, of an admitted state and lent memory.
 module _ (s : Registers) (archive pool table owners live : ℕ) (groups history : List ℕ)
@@ -154,7 +154,7 @@ module _ (x : Storage) (z : admittedIn x 0 ≡ 0) (live : ℕ) (counted : live �
   recent-part q e v =
       let b = entry-below (settingsIn (x .state)) (x .state .cache) e (q .entries) v in
       let c = q .coherent e v in
-      let n = newest-is (well-findable x q) (lineOf (x .state .cache) e) b in
+      let n = newest-is (well-findable x q) (heldLine (x .state .cache) e) b in
       (b, c .0 ∙ sym (n .0), c .1 ∙ sym (n .1))
 
   pub well-decided : (b p c r : Bool) → Decides b (WellBits (writtenIn x) (x .state .registers .tag) live) → not b ≡ false
@@ -183,7 +183,7 @@ module _ (x : Storage) (z : admittedIn x 0 ≡ 0) (live : ℕ) (counted : live �
             entries = record { first = entries .first; second = entries .second; once = entries .once };
             coherent = λ e v.
                 let a = all e v in
-                let n = newest-is findable (lineOf (x .state .cache) e) (a .0) in
+                let n = newest-is findable (heldLine (x .state .cache) e) (a .0) in
                 (a .1 ∙ n .0, a .2 ∙ n .1);
           }
 

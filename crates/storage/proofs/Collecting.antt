@@ -316,7 +316,7 @@ module _ (x : Storage) (k a : ℕ) (told : a ≡ admittedIn x (markedRefusal (li
     pub advance-collects : a ≡ 0 → (archive groups history : List ℕ) → archive ≡ collected-to x k gone .memory .archive
         → groups ≡ collected-to x k gone .memory .groups → history ≡ collected-to x k gone .memory .history
         → (t : Registers) (origins : List ℕ) → t ≡ advancedRegisters (x .state .registers) k gone
-        → origins ≡ framesAfter (x .state .registers .omf) (x .state .registers .frames) k (x .state .cache .frames)
+        → origins ≡ framesAfter (x .state .registers .omf) (x .state .registers .frames) k (x .state .cache .origins)
         → Advances x k 0 (storageOf (stateOf t (withOrigins (x .state .cache) origins)) archive (x .memory .pool) groups (x .memory .table) (x .memory .owners) history)
     unfolding advancedState collected
     advance-collects z archive groups history ea eg eh t origins e frames =

@@ -29,7 +29,7 @@ use Rattle.frames.specs.Circle.{frameAt}
 use Rattle.written.specs.Bits.{effective}
 use Rattle.written.specs.Well.{WellBits}
 use Rattle.written.proofs.Keeping.{mark-keeps}
-use Rattle.cache.specs.Entries.{lineOf}
+use Rattle.cache.specs.Entries.{heldLine}
 use Rattle.storage.specs.declared.Registers.{Registers}
 use Rattle.versions.specs.Newest.{pageOf}
 use Rattle.storage.specs.Storage.{Storage, stateOf, settingsIn, registersIn, lengthsIn, liveIn, writtenIn, frameIn, archiveIn, versionAt, latestIn, frameNumber, newestFrame, WellStore, store}
@@ -127,7 +127,7 @@ module _ (x : Storage) (q : WellStore x) (room : liveIn (x .state) < x .state .r
         version-line = step-versions opened _ _ opened-figure next-well;
         archive-line = step-archive opened _ _ opened-figure next-well;
         entries = q .entries;
-        coherent = λ e v. (q .coherent e v .0 ∙ sym (opened-latest (lineOf (x .state .cache) e)), q .coherent e v .1 ∙ sym (opened-newest (lineOf (x .state .cache) e)));
+        coherent = λ e v. (q .coherent e v .0 ∙ sym (opened-latest (heldLine (x .state .cache) e)), q .coherent e v .1 ∙ sym (opened-newest (heldLine (x .state .cache) e)));
       }
 
   pub opened-followed : Followed store (CHANGE MARK) x (outcome 0) opened

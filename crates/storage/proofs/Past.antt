@@ -10,7 +10,7 @@ use lib.Dec.{ltb}
 use lib.ListN.{length, getD, drop, length-drop, length-set}
 use lib.Seq.{ext-getD, getD-drop, drop-set-lt}
 use Rattle.lists.proofs.Lists.{rewrite-drop, rewrite-length}
-use Rattle.written.specs.Bits.{Written, writtenOf, Lent}
+use Rattle.written.specs.Bits.{Written, writtenOf, AsksWritten}
 use Rattle.written.proofs.Rolling.{group-place}
 use Rattle.written.specs.Steps.{RolledBack, swept, nextTag, lowered, withWritten}
 
@@ -70,6 +70,6 @@ module _ (w : Written) (tag l i : ℕ) where
   unfolding withWritten
   written-long = length-set (w .groups) _ _
 
-  pub written-past : Lent w → l < w .lines → drop (w .frames / 16 * w .lines) (withWritten w tag l i) ≡ drop (w .frames / 16 * w .lines) (w .groups)
+  pub written-past : AsksWritten w → l < w .lines → drop (w .frames / 16 * w .lines) (withWritten w tag l i) ≡ drop (w .frames / 16 * w .lines) (w .groups)
   unfolding withWritten
   written-past lent b = drop-set-lt (w .frames / 16 * w .lines) (w .groups) _ _ (group-place w lent i l b)

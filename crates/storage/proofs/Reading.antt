@@ -150,13 +150,13 @@ module _ (x : Storage) (q : WellStore x) (l : ℕ) (b : l < x .state .registers 
       go (Hit h) d =
           let f = found-at (x .state .cache) l h d in
           let c = q .coherent h (f .valid) in
-          let is = e ∙ ap (latestFrom (x .state .cache .frames) (x .state .cache .bytes) _) d in (
+          let is = e ∙ ap (latestFrom (x .state .cache .origins) (x .state .cache .bytes) _) d in (
             ap (λ (w : Version). w .content) is ∙ (c .0 ∙ ap (latestIn x) (f .line)),
             ap (λ (w : Version). w .frame) is ∙ (c .1 ∙ ap (newestFrame x) (f .line)),
             ap (λ (w : Version). originOf (w .origin)) is ∙ sym (ap (λ (t : Bool). cond t from-cache (from (seenOf store x .origin l))) (sym (hit-shown (x .state .cache) l) ∙ ap isHit d)),
           )
       go Miss d =
-          let r = newest-told x (well-findable x q) l b v (e ∙ ap (latestFrom (x .state .cache .frames) (x .state .cache .bytes) _) d) in
+          let r = newest-told x (well-findable x q) l b v (e ∙ ap (latestFrom (x .state .cache .origins) (x .state .cache .bytes) _) d) in
           (r .0, r .1, r .2 ∙ sym (ap (λ (t : Bool). cond t from-cache (from (seenOf store x .origin l))) (sym (hit-shown (x .state .cache) l) ∙ ap isHit d)))
 
   -- It is a line of bytes.

@@ -34,7 +34,7 @@ use Rattle.written.specs.Well.{WellBits}
 use Rattle.written.proofs.Rolling.{rolled-effective, rolled-well}
 use Rattle.pages.specs.Ring.{WellRing}
 use Rattle.pages.proofs.Keeping.{rolled-ring}
-use Rattle.cache.specs.Entries.{lineOf}
+use Rattle.cache.specs.Entries.{heldLine}
 use Rattle.cache.specs.Steps.{isDropped, flagsAfter, withFlags, forgotten}
 use Rattle.cache.specs.Shown.{shown}
 use Rattle.cache.proofs.Frames.{forgotten-sized, forgotten-shown, forgotten-all}
@@ -132,7 +132,7 @@ module _ (x : Storage) (q : WellStore x) (k : ℕ) (low : k ≤ liveIn (x .state
   unfolding rolledState cacheStep seenOf figureSeen
   rolled-cache =
       forgotten-shown (x .state .cache) (q .sized) (x .state .registers .omf) (x .state .registers .frames) kept (λ l. dropped k (origin l))
-      (λ e b v. sym (ap (isDropped (x .state .registers .omf) (x .state .registers .frames) kept) (q .coherent e v .1) ∙ gone-frame (lineOf (x .state .cache) e)))
+      (λ e b v. sym (ap (isDropped (x .state .registers .omf) (x .state .registers .frames) kept) (q .coherent e v .1) ∙ gone-frame (heldLine (x .state .cache) e)))
 
   -- The other lines are found as before.
   number-nearer : (o : Place) → Within kept o → frameNumber (dropped-to .state) o ≡ frameNumber (x .state) (shift k o)
@@ -248,12 +248,12 @@ module _ (x : Storage) (k a : ℕ) (told : a ≡ admittedIn x (markedRefusal (li
 
     -- in the form in which the code has the registers and the valid flags
     pub rollback-drops : (t : Registers) (valid : List ℕ) → t ≡ rolledRegisters (x .state .registers) k next left
-        → valid ≡ flagsAfter (x .state .cache .frames) (x .state .registers .omf) (x .state .registers .frames) (live - k) (x .state .cache .valid)
+        → valid ≡ flagsAfter (x .state .cache .origins) (x .state .registers .omf) (x .state .registers .frames) (live - k) (x .state .cache .valid)
         → RollsBack x k 0 (after (stateOf t (withFlags (x .state .cache) valid)))
     unfolding rolledState forgotten
     rollback-drops t valid e flags =
         let same : stateOf t (withFlags (x .state .cache) valid) ≡ rolledState (x .state) k next left =
-        λ i. stateOf (e i) (withFlags (x .state .cache) ((flags ∙ ap (λ (n : ℕ). flagsAfter (x .state .cache .frames) (x .state .registers .omf) (x .state .registers .frames) n (x .state .cache .valid)) kept-is) i))
+        λ i. stateOf (e i) (withFlags (x .state .cache) ((flags ∙ ap (λ (n : ℕ). flagsAfter (x .state .cache .origins) (x .state .registers .omf) (x .state .registers .frames) n (x .state .cache .valid)) kept-is) i))
         in (
           subst (λ (s : State). Promise store (ON (CHANGE (ROLLBACK k))) x (outcome 0) (after s)) (sym same) promised,
           λ d. subst (λ (s : State). RolledTo (x .state) (x .memory .groups) (x .memory .owners) (x .memory .history) k s groups history) (sym same) (record { state = refl; pages = left-is; memory = exact }),

@@ -8,7 +8,7 @@ use Rattle.rules.specs.Settings.{Pieces, elements}
 use Rattle.rules.specs.Registers as rules
 use Rattle.numbers.specs.declared.Found.{Found}
 use Rattle.frames.specs.Circle.{frameAt}
-use Rattle.written.specs.Bits.{writtenAt, writtenOf, Lent}
+use Rattle.written.specs.Bits.{writtenAt, writtenOf, AsksWritten}
 use Rattle.written.specs.Steps.{RolledBack}
 use Rattle.written.specs.declared.Shape.{Shape}
 use Rattle.pages.specs.declared.Ring.{Ring}
@@ -76,8 +76,8 @@ module _ (s : rules.Registers) (archive pool groups table history : ℕ) (owners
 
 -- What they say of it.
 module _ (lines frames omf pages first used : ℕ) (ring : Ring) (is : ring ≡ seen lines frames omf pages first used) where
-  pub seen-lent : (groups history : List ℕ) → Lent (writtenOf lines frames omf groups history) → Lent (writtenAt (ring .shape) groups history)
-  seen-lent groups history = subst (λ (y : Ring). Lent (writtenAt (y .shape) groups history)) (sym is)
+  pub seen-lent : (groups history : List ℕ) → AsksWritten (writtenOf lines frames omf groups history) → AsksWritten (writtenAt (ring .shape) groups history)
+  seen-lent groups history = subst (λ (y : Ring). AsksWritten (writtenAt (y .shape) groups history)) (sym is)
 
   pub seen-rolled : (groups history : List ℕ) (tag kept : ℕ) (groups-after history-after : List ℕ) (next : ℕ)
       → RolledBack (writtenAt (ring .shape) groups history) tag kept groups-after history-after next

@@ -25,17 +25,17 @@ use Rattle.numbers.specs.declared.Found.{Found}
 use Rattle.numbers.specs.declared.Found.the-variants.{At, Nothing}
 use Rattle.frames.proofs.Circle.{frame-below}
 use Rattle.lists.proofs.Lines.{length-written, past-written}
-use Rattle.written.specs.Bits.{Lent}
+use Rattle.written.specs.Bits.{AsksWritten}
 use Rattle.written.specs.Steps.{withWritten}
 use Rattle.pages.specs.Lines.{withPageLine}
 use Rattle.pages.specs.Table.{placeAt, entryAt}
 use Rattle.cache.specs.declared.Cache.{Cache}
-use Rattle.cache.specs.Steps.{placed}
+use Rattle.cache.specs.Steps.{placedIn}
 use Rattle.versions.specs.declared.Version.{Version}
 use Rattle.versions.specs.Newest.{latestOf}
 use Rattle.versions.specs.Steps.{pageFor, usedFor}
 use Rattle.versions.proofs.Finding.{entry-within}
-use Rattle.storage.specs.Storage.{Storage, stateOf, ringAt, Memory, memoryOf, settingsIn, registersIn, lengthsIn, pastIn, liveIn, writtenIn, WellStore, store}
+use Rattle.storage.specs.Storage.{Storage, stateOf, ringAt, Lent, memoryOf, settingsIn, registersIn, lengthsIn, pastIn, liveIn, writtenIn, WellStore, store}
 use Rattle.storage.specs.Steps.{givenRegisters, usedState, contentAfter, currentPlace, currentEntry, WroteTo, Put, AsksWrite}
 use Rattle.storage.specs.Admit.{Room}
 use Rattle.storage.specs.Contracts.{Writes}
@@ -55,7 +55,7 @@ pub put-told : (x : Storage) (wd a v live page : ℕ) (latest : Version)
     → pool ≡ withPageLine (x .memory .pool) page (lineOf a % 8) content → groups ≡ withWritten (writtenIn x) (x .state .registers .tag % 256) (lineOf a) (live - 1)
     → table ≡ set (x .memory .table) (entryAt (x .state .registers .lines) (frameAt (x .state .registers .frames) (x .state .registers .omf) (live - 1)) ((lineOf a) / 8)) page
     → owners ≡ set (x .memory .owners) page (placeAt (frameAt (x .state .registers .frames) (x .state .registers .omf) (live - 1)) (lineOf a / 8))
-    → (cache : Cache) → cache ≡ placed (x .state .cache) (lineOf a) (x .state .registers .cmf) content
+    → (cache : Cache) → cache ≡ placedIn (x .state .cache) (lineOf a) (x .state .registers .cmf) content
     → Put x wd a v live page cache (memoryOf (x .memory .archive) pool groups table owners (x .memory .history))
 put-told x wd a v live page latest found content is whole pool groups table owners ep eg et eo cache e =
     record {
@@ -133,7 +133,7 @@ module _ (x : Storage) (wd a v r : ℕ) (told : r ≡ admittedIn x (writeRefusal
       λ d. absurd (omega arith),
     )
 
-    module _ (picked : Found) (picked-is : picked ≡ choice) (page : ℕ) (at-page : picked ≡ At page) (live : ℕ) (live-is : live ≡ liveIn (x .state)) (cache : Cache) (memory : Memory) (put : Put x wd a v live page cache memory)
+    module _ (picked : Found) (picked-is : picked ≡ choice) (page : ℕ) (at-page : picked ≡ At page) (live : ℕ) (live-is : live ≡ liveIn (x .state)) (cache : Cache) (memory : Lent) (put : Put x wd a v live page cache memory)
         (next : ℕ) (next-is : next ≡ used-then) where
       abbrev t : Storage
       t = record { state = stateOf (givenRegisters (x .state .registers) next) cache; memory = memory }
@@ -183,7 +183,7 @@ module _ (x : Storage) (wd a v r : ℕ) (told : r ≡ admittedIn x (writeRefusal
           (drop-set-lt (x .state .registers .pages) (x .memory .owners) page place below-pages i)
           (drop 256 (x .memory .history)))
         where
-          lent : Lent (writtenIn x)
+          lent : AsksWritten (writtenIn x)
           lent =
               room-lent (registersIn (x .state)) (length (x .memory .archive)) (length (x .memory .pool)) (length (x .memory .table)) (length (x .memory .owners)) (x .memory .groups) (x .memory .history) room
 
@@ -199,11 +199,11 @@ module _ (x : Storage) (wd a v r : ℕ) (told : r ≡ admittedIn x (writeRefusal
             ∙ (ap (λ (m : ℕ). edit wd (offsetOf a) v (latestOf (x .state .cache) (writtenIn x) (x .state .registers .pages) m (x .memory .archive) (x .memory .pool) (x .memory .table) l .content)) live-is
             ∙ ap (edit wd (offsetOf a) v) (latest-told x q l below _ refl .0))
 
-        same-state : t .state ≡ usedState (x .state) used-then (placed (x .state .cache) l (x .state .registers .cmf) (contentAfter x wd a v))
+        same-state : t .state ≡ usedState (x .state) used-then (placedIn (x .state .cache) l (x .state .registers .cmf) (contentAfter x wd a v))
         unfolding usedState
         same-state =
             ap₂ (λ (n : ℕ) (y : Cache). stateOf (givenRegisters (x .state .registers) n) y) next-is
-            (put .cache-is ∙ ap (placed (x .state .cache) l (x .state .registers .cmf)) same-content)
+            (put .cache-is ∙ ap (placedIn (x .state .cache) l (x .state .registers .cmf)) same-content)
 
         same-memory : t .memory
             ≡ memoryOf (x .memory .archive) (withPageLine (x .memory .pool) page (l % 8) (contentAfter x wd a v)) (withWritten (writtenIn x) (x .state .registers .tag) l (liveIn (x .state) - 1))
@@ -219,7 +219,7 @@ module _ (x : Storage) (wd a v r : ℕ) (told : r ≡ admittedIn x (writeRefusal
         write-left : WroteTo x wd a v t
         write-left =
             record {
-              state = same-state ∙ ap (λ (u : ℕ). usedState (x .state) u (placed (x .state .cache) l (x .state .registers .cmf) (contentAfter x wd a v))) (c .used-is);
+              state = same-state ∙ ap (λ (u : ℕ). usedState (x .state) u (placedIn (x .state .cache) l (x .state .registers .cmf) (contentAfter x wd a v))) (c .used-is);
               memory =
                   same-memory
                   ∙ ap

@@ -27,8 +27,8 @@ use Rattle.written.specs.Bits.{newestFrom}
 use Rattle.cache.specs.declared.Cache.{Cache}
 use Rattle.cache.specs.declared.Entry.{Entry}
 use Rattle.cache.specs.declared.Entry.the-variants.{Hit, Miss}
-use Rattle.cache.specs.Entries.{cacheOf, frameOf, bytesOf, found}
-use Rattle.cache.specs.Steps.{placed}
+use Rattle.cache.specs.Entries.{cacheOf, heldFrame, heldBytes, found}
+use Rattle.cache.specs.Steps.{placedIn}
 use Rattle.cache.specs.Shown.{shown}
 use Rattle.cache.proofs.Uses.{placed-sized, placed-shown, placed-all, hit-placed}
 use Rattle.versions.specs.declared.Spot.{Spot}
@@ -60,7 +60,7 @@ module _ (x : Storage) (q : WellStore x) (l : ℕ) (b : l < x .state .registers 
 
   used-newest : (m : ℕ) → newestFrame used m ≡ newestFrame x m
   unfolding newestFrame readState usedState frameIn versionAt pageOf
-  used-newest m = used-number (x .state) (x .state .registers .used) (placed (x .state .cache) l (newestFrame x l) (latestIn x l)) (foundIn (liveIn (x .state)) (λ j. isWritten (frameIn x j m)))
+  used-newest m = used-number (x .state) (x .state .registers .used) (placedIn (x .state .cache) l (newestFrame x l) (latestIn x l)) (foundIn (liveIn (x .state)) (λ j. isWritten (frameIn x j m)))
 
   used-well : WellStore used
   unfolding readState usedState frameIn archiveIn versionAt latestIn pageOf
@@ -78,8 +78,8 @@ module _ (x : Storage) (q : WellStore x) (l : ℕ) (b : l < x .state .registers 
       }
 
 -- The state after a use of a line, as the code has it.
-pub used-done : (s : State) (used line frame : ℕ) (content : List ℕ) (k : Cache) → k ≡ placed (s .cache) line frame content
-    → stateOf (givenRegisters (s .registers) used) k ≡ usedState s used (placed (s .cache) line frame content)
+pub used-done : (s : State) (used line frame : ℕ) (content : List ℕ) (k : Cache) → k ≡ placedIn (s .cache) line frame content
+    → stateOf (givenRegisters (s .registers) used) k ≡ usedState s used (placedIn (s .cache) line frame content)
 unfolding usedState
 used-done s used line frame content k e = ap (stateOf (givenRegisters (s .registers) used)) e
 
@@ -113,7 +113,7 @@ module _ (x : Storage) (w a : ℕ) where
       module _ (live : ℕ) (live-is : live ≡ liveIn (x .state)) (v : Version)
           (found : v ≡ latestOf (x .state .cache) (writtenIn x) (x .state .registers .pages) live (x .memory .archive) (x .memory .pool) (x .memory .table) l)
           (value : ℕ) (valued : value ≡ valueAt w (offsetOf a) (v .content)) (s : State)
-          (is : s ≡ usedState (x .state) (x .state .registers .used) (placed (x .state .cache) l (v .frame) (v .content))) where
+          (is : s ≡ usedState (x .state) (x .state .registers .used) (placedIn (x .state .cache) l (v .frame) (v .content))) where
         module _ (q : WellStore x) where
           b : l < x .state .registers .lines
           b = line-below place-known
@@ -126,7 +126,7 @@ module _ (x : Storage) (w a : ℕ) where
           read-state : s ≡ readState x l
           unfolding readState
           read-state =
-              is ∙ ap₂ (λ (f : ℕ) (y : Line). usedState (x .state) (x .state .registers .used) (placed (x .state .cache) l f y)) (facts .1) (facts .0)
+              is ∙ ap₂ (λ (f : ℕ) (y : Line). usedState (x .state) (x .state .registers .used) (placedIn (x .state .cache) l f y)) (facts .1) (facts .0)
 
           read-answer : reading 0 value (originOf (v .origin)) ≡ due
           read-answer = ap₂ (reading 0) (valued ∙ ap (valueAt w (offsetOf a)) (facts .0)) (facts .2)
@@ -149,23 +149,23 @@ module _ (x : Storage) (w a : ℕ) where
         abbrev c : Cache
         c = x .state .cache
 
-        module _ (e : ℕ) (at-entry : f ≡ Hit e) (content : Line) (content-is : content ≡ bytesOf c e) (value : ℕ)
+        module _ (e : ℕ) (at-entry : f ≡ Hit e) (content : Line) (content-is : content ≡ heldBytes c e) (value : ℕ)
             (valued : value ≡ valueAt w (offsetOf a) content) (last : List ℕ) (last-is : last ≡ set (c .last) (e / 2) (e % 2)) where
           abbrev held : Version
-          held = record { content = content; frame = frameOf c e; origin = origin.Cache }
+          held = record { content = content; frame = heldFrame c e; origin = origin.Cache }
 
           abbrev after : State
-          after = stateOf (x .state .registers) (cacheOf (c .lines) (c .frames) (c .valid) (c .bytes) last)
+          after = stateOf (x .state .registers) (cacheOf (c .held) (c .origins) (c .valid) (c .bytes) last)
 
           held-is : held ≡ latestOf c (writtenIn x) (x .state .registers .pages) live (x .memory .archive) (x .memory .pool) (x .memory .table) l
           held-is =
-              latest-hit (c .lines) (c .frames) (c .valid) (c .bytes) (writtenIn x) (x .state .registers .pages) live l (x .memory .archive) (x .memory .pool) (x .memory .table) f f-is
-              e (frameOf c e) content at-entry content-is refl
+              latest-hit (c .held) (c .origins) (c .valid) (c .bytes) (writtenIn x) (x .state .registers .pages) live l (x .memory .archive) (x .memory .pool) (x .memory .table) f f-is
+              e (heldFrame c e) content at-entry content-is refl
 
-          after-is : after ≡ usedState (x .state) (x .state .registers .used) (placed c l (frameOf c e) content)
+          after-is : after ≡ usedState (x .state) (x .state .registers .used) (placedIn c l (heldFrame c e) content)
           after-is =
-              used-done (x .state) (x .state .registers .used) l (frameOf c e) content _
-              (hit-placed c l e (sym f-is ∙ at-entry) last last-is ∙ ap (placed c l (frameOf c e)) (sym content-is))
+              used-done (x .state) (x .state .registers .used) l (heldFrame c e) content _
+              (hit-placed c l e (sym f-is ∙ at-entry) last last-is ∙ ap (placedIn c l (heldFrame c e)) (sym content-is))
 
           pub read-hits : Reads x w a 0 value (originOf origin.Cache) (record { state = after; memory = x .memory })
           read-hits = (read-told live live-is held held-is value valued after after-is, λ e. (refl, read-state live live-is held held-is value valued after after-is))
@@ -173,13 +173,13 @@ module _ (x : Storage) (w a : ℕ) where
         -- or the newest version, which the cache takes in.
         module _ (missed : f ≡ Miss) (v : Version)
             (v-is : v ≡ newestOf (writtenIn x) (x .state .registers .pages) live (x .memory .archive) (x .memory .pool) (x .memory .table) l) (value : ℕ)
-            (valued : value ≡ valueAt w (offsetOf a) (v .content)) (k : Cache) (k-is : k ≡ placed c l (v .frame) (v .content)) where
+            (valued : value ≡ valueAt w (offsetOf a) (v .content)) (k : Cache) (k-is : k ≡ placedIn c l (v .frame) (v .content)) where
           found-is : v ≡ latestOf c (writtenIn x) (x .state .registers .pages) live (x .memory .archive) (x .memory .pool) (x .memory .table) l
           found-is =
-              latest-miss (c .lines) (c .frames) (c .valid) (c .bytes) (writtenIn x) (x .state .registers .pages) live l (x .memory .archive) (x .memory .pool) (x .memory .table) f f-is
+              latest-miss (c .held) (c .origins) (c .valid) (c .bytes) (writtenIn x) (x .state .registers .pages) live l (x .memory .archive) (x .memory .pool) (x .memory .table) f f-is
               v missed v-is
 
-          loaded-is : stateOf (x .state .registers) k ≡ usedState (x .state) (x .state .registers .used) (placed c l (v .frame) (v .content))
+          loaded-is : stateOf (x .state .registers) k ≡ usedState (x .state) (x .state .registers .used) (placedIn c l (v .frame) (v .content))
           loaded-is = used-done (x .state) (x .state .registers .used) l (v .frame) (v .content) k k-is
 
           abbrev loaded : State

@@ -36,7 +36,7 @@ use Rattle.pages.specs.Lines.{pageLine, withPageLine}
 use Rattle.pages.specs.Table.{neededAt, placeAt, entryOf, entryAt}
 use Rattle.pages.proofs.Places.{page-other}
 use Rattle.pages.proofs.Needs.{effective-needed}
-use Rattle.cache.specs.Steps.{placed}
+use Rattle.cache.specs.Steps.{placedIn}
 use Rattle.cache.specs.Shown.{shown}
 use Rattle.cache.proofs.Uses.{placed-sized, placed-shown, placed-all}
 use Rattle.versions.specs.Newest.{pageOf}
@@ -85,7 +85,7 @@ module _ (x : Storage) (q : WellStore x) (wd a v : ℕ) (p : Placed (settingsIn 
 
     abbrev pub stored : Storage
     stored =
-        storageOf (usedState (x .state) used (placed (x .state .cache) l (x .state .registers .cmf) content)) (x .memory .archive) (withPageLine (x .memory .pool) page (l % 8) content)
+        storageOf (usedState (x .state) used (placedIn (x .state .cache) l (x .state .registers .cmf) content)) (x .memory .archive) (withPageLine (x .memory .pool) page (l % 8) content)
         (withWritten w (x .state .registers .tag) l (n - 1)) (set (x .memory .table) (entry x q l b) page) (set (x .memory .owners) page (place x q l b)) (x .memory .history)
 
     whole : length content ≡ 16
@@ -277,7 +277,7 @@ module _ (x : Storage) (q : WellStore x) (wd a v : ℕ) (p : Placed (settingsIn 
       unfolding newestFrame
       other-newest =
           ap₂ (λ (k : ℕ) (row : ℕ → Option Line). frameNumber (stored .state) (foundIn k (λ j. isWritten (row j)))) same-live (fun-ext (λ j. other-frame j m (λ _ t. other t)))
-          ∙ used-number (x .state) used (placed (x .state .cache) l (x .state .registers .cmf) content) (foundIn n (λ j. isWritten (frameIn x j m)))
+          ∙ used-number (x .state) used (placedIn (x .state .cache) l (x .state .registers .cmf) content) (foundIn n (λ j. isWritten (frameIn x j m)))
 
     stored-cache : shown (stored .state .cache) ≡ use-line l (shown (x .state .cache))
     unfolding usedState

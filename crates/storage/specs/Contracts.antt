@@ -15,11 +15,11 @@ use Rattle.rules.specs.Call.Call.{RESET, ON}
 use Rattle.cache.specs.declared.Cache.{Cache}
 use Rattle.cache.specs.Entries.{cacheOf}
 use Rattle.storage.specs.declared.Registers.{Registers}
-use Rattle.storage.specs.Storage.{Storage, Memory, stateOf, WellStore, store}
+use Rattle.storage.specs.Storage.{Storage, Lent, stateOf, WellStore, store}
 use Rattle.storage.specs.Steps.{markedState, ResetTo, RolledTo, AdvancedTo, ReadTo, WroteTo}
 
 -- A storage by its registers, its cache and the lent memory.
-abbrev pub storageWith : Registers → Cache → Memory → Storage
+abbrev pub storageWith : Registers → Cache → Lent → Storage
 storageWith r cache m = record { state = stateOf r cache; memory = m }
 
 -- "RESET(L, F, P): archive all zero, one live frame, no written bits, all pages free, cache empty. Any lent contents will do."
@@ -57,22 +57,22 @@ Advances x k r t =
 
 -- The same of the calls that do not look at the cache, or only at a part of it: whatever the rest holds, which stays. LINE, its companion
 -- and COUNTS look at the registers and the lent memory, and change nothing;
-abbrev pub Looks : Look → Registers → Memory → Answer → Type 0
+abbrev pub Looks : Look → Registers → Lent → Answer → Type 0
 Looks q r m a = (cache : Cache) → Promise store (ON (LOOK q)) (storageWith r cache m) a (storageWith r cache m)
 
 -- MARK changes the registers alone;
-abbrev pub MarksIn : (before : Registers) → Memory → (refusal : ℕ) → (after : Registers) → Type 0
+abbrev pub MarksIn : (before : Registers) → Lent → (refusal : ℕ) → (after : Registers) → Type 0
 MarksIn s m r t = (cache : Cache) → Marks (storageWith s cache m) r (storageWith t cache m)
 
 -- ROLLBACK the registers and the valid flags, by the entries' frames;
-abbrev pub RollsBackIn : (origins : List ℕ) → (before : Registers) → (valid : List ℕ) → Memory → (k refusal : ℕ) → (after : Registers) → (valid-after : List ℕ)
-    → Memory → Type 0
+abbrev pub RollsBackIn : (origins : List ℕ) → (before : Registers) → (valid : List ℕ) → Lent → (k refusal : ℕ) → (after : Registers) → (valid-after : List ℕ)
+    → Lent → Type 0
 RollsBackIn origins s valid m k r t valid-after n =
     (held bytes last : List ℕ)
     → RollsBack (storageWith s (cacheOf held origins valid bytes last) m) k r (storageWith t (cacheOf held origins valid-after bytes last) n)
 
 -- ADVANCE the registers and the entries' frames.
-abbrev pub AdvancesIn : (before : Registers) → (origins : List ℕ) → Memory → (k refusal : ℕ) → (after : Registers) → (origins-after : List ℕ) → Memory → Type 0
+abbrev pub AdvancesIn : (before : Registers) → (origins : List ℕ) → Lent → (k refusal : ℕ) → (after : Registers) → (origins-after : List ℕ) → Lent → Type 0
 AdvancesIn s origins m k r t origins-after n =
     (held valid bytes last : List ℕ)
     → Advances (storageWith s (cacheOf held origins valid bytes last) m) k r (storageWith t (cacheOf held origins-after valid bytes last) n)

@@ -14,10 +14,10 @@ use Rattle.pages.specs.Ring.{nthPage, indexAt, Leading, Leads}
 use Rattle.versions.specs.Newest.{latestOf, AsksNewest}
 use Rattle.versions.specs.Steps.{zeroed, foldedPages, clearedPages, AsksPut}
 use Rattle.cache.specs.declared.Cache.{Cache}
-use Rattle.cache.specs.Steps.{emptied, placed, forgotten, collected}
+use Rattle.cache.specs.Steps.{emptied, placedIn, forgotten, collected}
 use Rattle.storage.specs.declared.Registers.{Registers}
 use Rattle.storage.specs.declared.State.{State}
-use Rattle.storage.specs.Storage.{Storage, Memory, memoryOf, stateOf, ringAt, liveIn, writtenIn, latestIn, newestFrame, WellStore}
+use Rattle.storage.specs.Storage.{Storage, Lent, memoryOf, stateOf, ringAt, liveIn, writtenIn, latestIn, newestFrame, WellStore}
 
 -- RESET: "one live frame .., cache empty".
 unfoldable pub freshState : (lines frames pages : ℕ) → State
@@ -104,7 +104,7 @@ usedState s used cache = stateOf (givenRegisters (s .registers) used) cache
 -- READ: "A hit moves its way to most recently used. A miss, of a read or a write, takes ..": the way taken has the line's most recent
 -- version.
 unfoldable pub readState : Storage → (line : ℕ) → State
-readState x l = usedState (x .state) (x .state .registers .used) (placed (x .state .cache) l (newestFrame x l) (latestIn x l))
+readState x l = usedState (x .state) (x .state .registers .used) (placedIn (x .state .cache) l (newestFrame x l) (latestIn x l))
 
 -- The registers stay on any storage, and the cache has the line on storage that CHECK passes.
 abbrev pub ReadTo : Storage → (line : ℕ) → State → Type 0
@@ -139,7 +139,7 @@ pub record WroteTo (x : Storage) (width address value : ℕ) (t : Storage) : Typ
   pub state :
       t .state
       ≡ usedState (x .state) (usedAfter x (lineOf address))
-      (placed (x .state .cache) (lineOf address) (x .state .registers .cmf) (contentAfter x width address value))
+      (placedIn (x .state .cache) (lineOf address) (x .state .registers .cmf) (contentAfter x width address value))
   pub memory :
       t .memory
       ≡ memoryOf (x .memory .archive) (withPageLine (x .memory .pool) (pageTaken x (lineOf address)) (lineOf address % 8) (contentAfter x width address value))
@@ -148,14 +148,14 @@ pub record WroteTo (x : Storage) (width address value : ℕ) (t : Storage) : Typ
       (set (x .memory .owners) (pageTaken x (lineOf address)) (currentPlace x (lineOf address))) (x .memory .history)
 
 -- What is left once a page is found, on any storage: the version is put in the page.
-pub record Put (x : Storage) (width address value live page : ℕ) (cache : Cache) (memory : Memory) : Type 0 where
+pub record Put (x : Storage) (width address value live page : ℕ) (cache : Cache) (memory : Lent) : Type 0 where
   pub content : Line
   pub content-is :
       content
       ≡ edit width (offsetOf address) value
       (latestOf (x .state .cache) (writtenIn x) (x .state .registers .pages) live (x .memory .archive) (x .memory .pool) (x .memory .table) (lineOf address) .content)
   pub content-long : length content ≡ 16
-  pub cache-is : cache ≡ placed (x .state .cache) (lineOf address) (x .state .registers .cmf) content
+  pub cache-is : cache ≡ placedIn (x .state .cache) (lineOf address) (x .state .registers .cmf) content
   pub memory-is :
       memory
       ≡ memoryOf (x .memory .archive) (withPageLine (x .memory .pool) page (lineOf address % 8) content)

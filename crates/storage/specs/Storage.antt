@@ -31,7 +31,7 @@ use Rattle.storage.specs.declared.Registers.{Registers}
 use Rattle.storage.specs.declared.State.{State}
 
 -- The lent lists: "The archive is a lent memory of 16 × L bytes beside the pool of 128 × P bytes. All other lent memory ..".
-pub record Memory : Type 0 where
+pub record Lent : Type 0 where
   pub archive : List ℕ
   pub pool : List ℕ
   pub groups : List ℕ
@@ -42,10 +42,10 @@ pub record Memory : Type 0 where
 -- What a call is given and what it leaves: "the state and lent memory just as the call before it .. returned or left them".
 pub record Storage : Type 0 where
   pub state : State
-  pub memory : Memory
+  pub memory : Lent
 
 -- Both by their parts, in the order of the calls' parameters.
-abbrev pub memoryOf : (archive pool groups table owners history : List ℕ) → Memory
+abbrev pub memoryOf : (archive pool groups table owners history : List ℕ) → Lent
 memoryOf a p g t o h = record { archive = a; pool = p; groups = g; table = t; owners = o; history = h }
 
 abbrev pub storageOf : State → (archive pool groups table owners history : List ℕ) → Storage
@@ -91,7 +91,7 @@ abbrev pub ringAt : Registers → Ring
 ringAt r = record { shape = shapeAt r; pages = r .pages; first = startIn (r .first) (r .pages); used = min (r .used) (r .pages) }
 
 -- The lent lengths, in elements.
-abbrev pub lengthsIn : Memory → Pieces
+abbrev pub lengthsIn : Lent → Pieces
 lengthsIn m =
     record {
       archive = length (m .archive);
@@ -103,7 +103,7 @@ lengthsIn m =
     }
 
 -- All that lies past the first so many elements of each piece.
-abbrev pub pastIn : Pieces → Memory → Memory
+abbrev pub pastIn : Pieces → Lent → Lent
 pastIn n m =
     record {
       archive = drop (n .archive) (m .archive);
@@ -183,7 +183,7 @@ store =
       Storage = Storage;
       registers = λ x. registersIn (x .state);
       lengths = λ x. lengthsIn (x .memory);
-      Rest = Memory;
+      Rest = Lent;
       past = λ n x. pastIn n (x .memory);
       Well = WellStore;
       figure = λ x. record { live = liveIn (x .state); frame = frameIn x; archive = archiveIn x };

@@ -10,11 +10,12 @@ use Rattle.versions.specs.declared.Origin as code
 use Rattle.versions.specs.Newest.{originOf}
 use Rattle.storage.specs.declared.State.{State}
 use Rattle.storage.specs.Steps.{freshState}
-use Rattle.storage.specs.Storage.{Memory, Storage, memoryOf, lengthsIn, store}
+use Rattle.storage.specs.Storage as storage
+use Rattle.storage.specs.Storage.{Storage, memoryOf, lengthsIn, store}
 
 -- The lent memory, and the lengths of its pieces in elements.
 abbrev pub Lent : Type 0
-Lent = Memory
+Lent = storage.Lent
 
 abbrev pub lentOf : (archive pool groups table owners history : List ℕ) → Lent
 lentOf a p g t o h = memoryOf a p g t o h

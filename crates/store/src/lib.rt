@@ -120,8 +120,8 @@ pub fn write(
         (storageOf (r .state) (now (archive .entry)) (now (pool .exit)) (now (groups .exit)) (now (table .exit)) (now (owners .exit)) (now (history .entry))) ⌝ }
 {
     let cache = state.cache;
-    let mut held = cache.lines;
-    let mut origins = cache.frames;
+    let mut held = cache.held;
+    let mut origins = cache.origins;
     let mut valid = cache.valid;
     let mut bytes = cache.bytes;
     let mut last = cache.last;
@@ -144,8 +144,8 @@ pub fn write(
     );
     let registers = step.registers;
     let after = Cache {
-        lines: held,
-        frames: origins,
+        held,
+        origins,
         valid,
         bytes,
         last,
@@ -177,8 +177,8 @@ pub fn read(
         (storageOf (r .state) (now (archive .entry)) (now (pool .entry)) (now (groups .entry)) (now (table .entry)) (now (owners .entry)) (now (history .entry))) ⌝ }
 {
     let cache = state.cache;
-    let mut held = cache.lines;
-    let mut origins = cache.frames;
+    let mut held = cache.held;
+    let mut origins = cache.origins;
     let mut valid = cache.valid;
     let mut bytes = cache.bytes;
     let mut last = cache.last;
@@ -200,8 +200,8 @@ pub fn read(
     );
     let registers = state.registers;
     let after = Cache {
-        lines: held,
-        frames: origins,
+        held,
+        origins,
         valid,
         bytes,
         last,
@@ -323,7 +323,7 @@ pub fn rollback(
         (storageOf (r .state) (now (archive .entry)) (now (pool .entry)) (now (groups .exit)) (now (table .entry)) (now (owners .entry)) (now (history .exit))) ⌝ }
 {
     let mut cache = state.cache;
-    let origins = cache.frames;
+    let origins = cache.origins;
     let mut valid = cache.valid;
     let step = marks::rollback(
         state.registers,
@@ -362,7 +362,7 @@ pub fn advance(
         (storageOf (r .state) (now (archive .exit)) (now (pool .entry)) (now (groups .exit)) (now (table .entry)) (now (owners .entry)) (now (history .exit))) ⌝ }
 {
     let mut cache = state.cache;
-    let mut origins = cache.frames;
+    let mut origins = cache.origins;
     let step = marks::advance(
         state.registers,
         &mut origins,
@@ -374,7 +374,7 @@ pub fn advance(
         history,
         k,
     );
-    cache.frames = origins;
+    cache.origins = origins;
     let registers = step.registers;
     Outcome {
         state: State { registers, cache },

@@ -13,7 +13,7 @@ use lib.ListN.{length, getD, drop, drop-of-length-le}
 use lib.Seq.{drop-cons}
 use Rattle.text.specs.Parts.{Text}
 use Rattle.text.specs.declared.Number.the-variants.{Is, Not}
-use Rattle.text.specs.Numbers.{isDigit, allDigits, valueOf, isNumber, fieldNumber}
+use Rattle.text.specs.Numbers.{isDigit, allDigits, decimalValue, isNumber, fieldNumber}
 
 -- A byte that is a digit.
 module _ (b : ℕ) where
@@ -43,7 +43,7 @@ module _ (b : ℕ) where
 -- The value of the first i digits, continued from there, is the value of them all.
 pub record Reading (field : Text) (i value : ℕ) : Type 0 where
   pub few : i ≤ length field
-  pub same : valueOf 0 field ≡ valueOf value (drop i field)
+  pub same : decimalValue 0 field ≡ decimalValue value (drop i field)
   pub digits : allDigits field ≡ allDigits (drop i field)
   pub small : value < 10 ^ i
 
@@ -52,11 +52,11 @@ reading-start field = record { few = omega arith; same = refl; digits = refl; sm
 
 not-number : (field : Text) → isNumber field ≡ false → Not ≡ fieldNumber field
 unfolding fieldNumber
-not-number field e = sym (ap (λ (t : Bool). cond t (Is (valueOf 0 field)) Not) e)
+not-number field e = sym (ap (λ (t : Bool). cond t (Is (decimalValue 0 field)) Not) e)
 
 module _ (field : Text) where
   abbrev rest : Bool
-  rest = allDigits field && leb (valueOf 0 field) 4294967295
+  rest = allDigits field && leb (decimalValue 0 field) 4294967295
 
   pub number-empty : length field ≡ 0 → Not ≡ fieldNumber field
   unfolding isNumber
@@ -81,19 +81,19 @@ module _ (field : Text) where
         let none : allDigits field ≡ false =
         r .digits ∙ (ap allDigits (here h) ∙ ap (λ (s : Bool). s && allDigits (drop (suc i) field)) (sym e ∙ not-true b t))
         in
-        not-number field (ap (λ (s : Bool). counted && (s && leb (valueOf 0 field) 4294967295)) none ∙ and-false counted)
+        not-number field (ap (λ (s : Bool). counted && (s && leb (decimalValue 0 field) 4294967295)) none ∙ and-false counted)
 
     -- one digit more
     pub reading-next : (b : Bool) (d : ℕ) → i < length field → b ≡ isDigit (getD field i 0) → not b ≡ false → (d ≡ getD field i 0 - 48) × (d < 10) → Reading field (i + 1) (value * 10 + d)
-    unfolding valueOf allDigits
+    unfolding decimalValue allDigits
     reading-next b d h e t v =
         let more : i + 1 ≡ suc i = omega arith in
         record {
           few = omega arith;
           same =
               r .same
-              ∙ (ap (valueOf value) (here h)
-              ∙ ap₂ (λ (x : ℕ) (k : ℕ). valueOf (value * 10 + x) (drop k field)) (sym (v .0)) (sym more));
+              ∙ (ap (decimalValue value) (here h)
+              ∙ ap₂ (λ (x : ℕ) (k : ℕ). decimalValue (value * 10 + x) (drop k field)) (sym (v .0)) (sym more));
           digits =
               r .digits
               ∙ (ap allDigits (here h)
@@ -112,9 +112,9 @@ module _ (field : Text) where
     unfolding allDigits
     all-digits h = r .digits ∙ ap allDigits (drop-of-length-le field {i = i} h)
 
-    whole : length field ≤ i → valueOf 0 field ≡ value
-    unfolding valueOf
-    whole h = r .same ∙ ap (valueOf value) (drop-of-length-le field {i = i} h)
+    whole : length field ≤ i → decimalValue 0 field ≡ value
+    unfolding decimalValue
+    whole h = r .same ∙ ap (decimalValue value) (drop-of-length-le field {i = i} h)
 
     pub number-large : length field ≤ i → 4294967295 < value → Not ≡ fieldNumber field
     unfolding isNumber
@@ -127,6 +127,6 @@ module _ (field : Text) where
     unfolding isNumber fieldNumber
     number-is some few h b =
         sym
-        (ap₂ (λ (s t : Bool). cond ((s && t) && rest) (Is (valueOf 0 field)) Not) (le-leb 1 (length field) (omega arith)) (le-leb (length field) 10 few)
+        (ap₂ (λ (s t : Bool). cond ((s && t) && rest) (Is (decimalValue 0 field)) Not) (le-leb 1 (length field) (omega arith)) (le-leb (length field) 10 few)
         ∙ (ap₂ (λ (s : Bool) (x : ℕ). cond (s && leb x 4294967295) (Is x) Not) (all-digits h) (whole h)
         ∙ ap (λ (s : Bool). cond s (Is value) Not) (le-leb value 4294967295 b)))

@@ -16,16 +16,16 @@ allDigits [] = true
 allDigits (b ∷ bs) = isDigit b && allDigits bs
 
 -- The value of digits, with v for the digits before them.
-unfoldable pub valueOf : (v : ℕ) → Text → ℕ
-valueOf v [] = v
-valueOf v (b ∷ bs) = valueOf (v * 10 + (b - 48)) bs
+unfoldable pub decimalValue : (v : ℕ) → Text → ℕ
+decimalValue v [] = v
+decimalValue v (b ∷ bs) = decimalValue (v * 10 + (b - 48)) bs
 
 -- "Numbers have 1 to 10 decimal digits, leading zeros allowed, and are at most 4,294,967,295."
 unfoldable pub isNumber : Text → Bool
-isNumber field = (leb 1 (length field) && leb (length field) 10) && (allDigits field && leb (valueOf 0 field) 4294967295)
+isNumber field = (leb 1 (length field) && leb (length field) 10) && (allDigits field && leb (decimalValue 0 field) 4294967295)
 
 unfoldable pub fieldNumber : Text → Number
-fieldNumber field = cond (isNumber field) (Is (valueOf 0 field)) Not
+fieldNumber field = cond (isNumber field) (Is (decimalValue 0 field)) Not
 
 -- The decimal digits of a number without leading zeros, before some text. So many digits are enough for any 64-bit number.
 unfoldable pub digitsBefore : (most n : ℕ) → Text → Text

@@ -13,7 +13,7 @@ use lib.ListN.{length, getD, drop}
 use Rattle.frames.specs.Circle.{frameAt}
 use Rattle.numbers.specs.Digits.{bit}
 use Rattle.frames.proofs.Circle.{index-frame}
-use Rattle.written.specs.Bits.{Written, Lent, placeOf, tagOf, effective}
+use Rattle.written.specs.Bits.{Written, AsksWritten, placeOf, tagOf, effective}
 use Rattle.written.specs.Steps.{clearedBlock}
 use Rattle.written.proofs.Areas.{place-below, area-below}
 use Rattle.written.proofs.Unsetting.{block-cleared}
@@ -114,7 +114,7 @@ module _ (w : Written) (by : w .lines % 8 ≡ 0) (frames-by : w .frames % 16 ≡
             stays i m e false d back = refl
 
 -- On a ring.
-module _ (w : Written) (lent : Lent w) (pages first used gone k : ℕ) (below : k ≤ w .frames) (table owners : List ℕ) (r : WellRing w pages first used table owners)
+module _ (w : Written) (lent : AsksWritten w) (pages first used gone k : ℕ) (below : k ≤ w .frames) (table owners : List ℕ) (r : WellRing w pages first used table owners)
     (parts : Splits used (indexAt (w .frames) (w .omf) pages first owners) k gone) (by : w .lines % 8 ≡ 0) where
   abbrev after : List ℕ
   after = clearedPages (w .lines) pages first owners gone (w .groups)

@@ -22,7 +22,7 @@ use Rattle.pages.specs.Table.{blocksOf, placeAt, entryOf, AsksTable, entryAt, A
 use Rattle.pages.proofs.Needs.{place-frame, place-block}
 use Rattle.cache.specs.declared.Entry.{Entry}
 use Rattle.cache.specs.declared.Entry.the-variants.{Hit, Miss}
-use Rattle.cache.specs.Entries.{bytesIn, foundIn}
+use Rattle.cache.specs.Entries.{bytesIn, hitIn}
 use Rattle.versions.specs.declared.Spot.{Spot}
 use Rattle.versions.specs.declared.Spot.the-variants.{Page, Archive}
 use Rattle.versions.specs.declared.Origin.{Origin}
@@ -159,7 +159,7 @@ module _ (w : Written) (pages live line : ℕ) (archive pool table : List ℕ) (
   unfolding numberOf backIn
   newest-none e = version-is 65535 origin.Archive (ap (numberOf (w .frames) (w .omf)) (sym e)) (ap (backIn live) (sym e))
 
-module _ (lines frames valid bytes : List ℕ) (w : Written) (pages live line : ℕ) (archive pool table : List ℕ) (r : Entry) (told : r ≡ foundIn lines valid line) where
+module _ (lines frames valid bytes : List ℕ) (w : Written) (pages live line : ℕ) (archive pool table : List ℕ) (r : Entry) (told : r ≡ hitIn lines valid line) where
   pub latest-hit : (e n : ℕ) (x : Line) → r ≡ Hit e → x ≡ bytesIn bytes e → n ≡ getD frames e 0
       → record { content = x; frame = n; origin = origin.Cache } ≡ latestHeld lines frames valid bytes w pages live archive pool table line
   unfolding latestHeld latestFrom

@@ -18,20 +18,20 @@ use Rattle.versions.proofs.Finding.{entry-asks}
 -- ---- the page of a write
 module _ (lines pages first used : ℕ) (table owners : List ℕ) (frame line page : ℕ) (e : (page ≡ getD table (entryAt lines frame (line / 8)) 0) × (page < 65536)) (own : Bool)
     (told : own ≡ owns pages first used owners page (placeAt frame (line / 8))) where
-  abbrev Chosen : (page : Found) (used : ℕ) → Type 0
-  Chosen p n = (p ≡ pageFor lines pages first used table owners frame line) × (n ≡ usedFor lines pages first used table owners frame line)
+  abbrev Picks : (page : Found) (used : ℕ) → Type 0
+  Picks p n = (p ≡ pageFor lines pages first used table owners frame line) × (n ≡ usedFor lines pages first used table owners frame line)
 
   own-is : own ≡ ownsPage lines pages first used table owners frame line
   own-is = told ∙ ap (λ (p : ℕ). owns pages first used owners p (placeAt frame (line / 8))) (e .0)
 
-  pub page-own : own ≡ true → Chosen (At page) used
+  pub page-own : own ≡ true → Picks (At page) used
   unfolding pageFor usedFor
   page-own t = (
     ap At (e .0) ∙ sym (ap (λ (b : Bool). cond b (At (getD table (entryAt lines frame (line / 8)) 0)) (nextPage pages first used)) (sym own-is ∙ t)),
     sym (ap (λ (b : Bool). cond b used (min pages (used + 1))) (sym own-is ∙ t)),
   )
 
-  pub page-next : (next : Found) (n : ℕ) → own ≡ false → next ≡ nextPage pages first used → n ≡ min pages (used + 1) → Chosen next n
+  pub page-next : (next : Found) (n : ℕ) → own ≡ false → next ≡ nextPage pages first used → n ≡ min pages (used + 1) → Picks next n
   unfolding pageFor usedFor
   page-next next n t d k = (
     d ∙ sym (ap (λ (b : Bool). cond b (At (getD table (entryAt lines frame (line / 8)) 0)) (nextPage pages first used)) (sym own-is ∙ t)),

@@ -17,7 +17,7 @@ use Rattle.frames.specs.Circle.{indexOf, frameAt}
 use Rattle.numbers.specs.Search.{greatest}
 use Rattle.frames.proofs.Circle.{frame-below, index-frame, frame-index}
 use Rattle.numbers.proofs.Search.{greatest-none, greatest-at, greatest-nothing, Greatest, greatest-found}
-use Rattle.written.specs.Bits.{Written, Lent, effective}
+use Rattle.written.specs.Bits.{Written, AsksWritten, effective}
 use Rattle.pages.specs.Lines.{pageLine, archiveLine}
 use Rattle.pages.specs.Table.{blocksOf, placesOf, placeAt, entryOf}
 use Rattle.pages.specs.Ring.{nthPage, positionOf, Rising, Splits, ownerIndex, indexAt, WellRing}
@@ -74,7 +74,7 @@ module _ (n k : ℕ) (f g : ℕ → Bool) (idx : ℕ → ℕ) (hits : (i : ℕ) 
           ]
 
 -- The collected part of the ring, and a line.
-module _ (w : Written) (lent : Lent w) (pages first used gone k : ℕ) (below : k ≤ w .frames) (table owners : List ℕ) (r : WellRing w pages first used table owners)
+module _ (w : Written) (lent : AsksWritten w) (pages first used gone k : ℕ) (below : k ≤ w .frames) (table owners : List ℕ) (r : WellRing w pages first used table owners)
     (parts : Splits used (indexAt (w .frames) (w .omf) pages first owners) k gone) (by : w .lines % 8 ≡ 0) (l : ℕ) (line-below : l < w .lines) where
   abbrev owner : ℕ → ℕ
   owner i = getD owners (nthPage pages first i) 0

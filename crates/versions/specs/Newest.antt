@@ -18,7 +18,7 @@ use Rattle.pages.specs.Table.{entryAt, AsksTable}
 use Rattle.cache.specs.declared.Cache.{Cache}
 use Rattle.cache.specs.declared.Entry.{Entry}
 use Rattle.cache.specs.declared.Entry.the-variants.{Hit, Miss}
-use Rattle.cache.specs.Entries.{bytesIn, foundIn}
+use Rattle.cache.specs.Entries.{bytesIn, hitIn}
 use Rattle.cache.specs.Steps.{archiveFrame}
 use Rattle.versions.specs.declared.Spot.{Spot}
 use Rattle.versions.specs.declared.Spot.the-variants.{Page, Archive}
@@ -75,11 +75,11 @@ latestFrom frames bytes other Miss = other
 
 unfoldable pub latestHeld : (held-lines held-frames valid bytes : List ℕ) → Written → (pages live : ℕ) → (archive pool table : List ℕ) → (line : ℕ) → Version
 latestHeld lines frames valid bytes w pages live archive pool table l =
-    latestFrom frames bytes (newestOf w pages live archive pool table l) (foundIn lines valid l)
+    latestFrom frames bytes (newestOf w pages live archive pool table l) (hitIn lines valid l)
 
 abbrev pub latestOf : Cache → Written → (pages live : ℕ) → (archive pool table : List ℕ) → (line : ℕ) → Version
 latestOf c w pages live archive pool table l =
-    latestHeld (c .lines) (c .frames) (c .valid) (c .bytes) w pages live archive pool table l
+    latestHeld (c .held) (c .origins) (c .valid) (c .bytes) w pages live archive pool table l
 
 -- What the functions ask of the numbers and the lent lengths; the store tests it.
 pub record AsksSpot (lines frames omf line : ℕ) (found : Found) (long : ℕ) : Type 0 where

@@ -8,7 +8,7 @@ use lib.ListN.{length, getD}
 use Rattle.lists.specs.Lists.{rewrite}
 use Rattle.numbers.specs.declared.Found.{Found}
 use Rattle.numbers.specs.declared.Found.the-variants.{At}
-use Rattle.written.specs.Bits.{Written, Lent, effective}
+use Rattle.written.specs.Bits.{Written, AsksWritten, effective}
 use Rattle.written.specs.Steps.{clearedBlock}
 use Rattle.pages.specs.Lines.{pageLine, withArchiveLine}
 use Rattle.pages.specs.Table.{blocksOf, placeAt, AsksTable, entryAt, AsksEntry}
@@ -79,7 +79,7 @@ pub record AsksPut (w : Written) (pages tag line index page : ℕ) (pool table o
 
 -- What copying from a page asks: the page, the frame's index and the lengths,
 pub record AsksCopy (w : Written) (pages page index archive pool : ℕ) : Type 0 where
-  pub lent : Lent w
+  pub lent : AsksWritten w
   pub lines-by : w .lines % 8 ≡ 0
   pub page-below : page < pages
   pub pages-few : pages ≤ 4096
@@ -89,7 +89,7 @@ pub record AsksCopy (w : Written) (pages page index archive pool : ℕ) : Type 0
 
 -- a fold: the ring besides.
 pub record AsksFold (w : Written) (pages first used archive pool owners : ℕ) : Type 0 where
-  pub lent : Lent w
+  pub lent : AsksWritten w
   pub lines-by : w .lines % 8 ≡ 0
   pub ring : AsksRing pages first used (w .frames) (w .omf) owners
   pub archive-long : 16 * w .lines ≤ archive

@@ -8,7 +8,7 @@ use borrow.Author.Tests.{eqb-true, eq-eqb}
 use lib.ListN.{length, getD}
 use lib.Seq.{ext-getD}
 use Rattle.cache.specs.declared.Cache.{Cache}
-use Rattle.cache.specs.Entries.{Sized, All, lineOf, frameOf, isValid, bytesOf, isValidIn}
+use Rattle.cache.specs.Entries.{Sized, All, heldLine, heldFrame, isValid, heldBytes, isValidIn}
 use Rattle.cache.proofs.Hits.{valid-below}
 use Rattle.versions.specs.declared.Version.{Version}
 use Rattle.versions.specs.Newest.{newestOf}
@@ -48,19 +48,19 @@ module _ (w : Written) (pages live : ℕ) (archive pool table : List ℕ) where
   -- An entry of the cache, if it is valid; those past the 32nd are not. (`Sized` tells which cache is meant.)
   module _ (c : Cache) where
     abbrev pub IfValid : ℕ → Type 0
-    IfValid e = isValid c e ≡ true → Recent (lineOf c e) (frameOf c e) (bytesOf c e)
+    IfValid e = isValid c e ≡ true → Recent (heldLine c e) (heldFrame c e) (heldBytes c e)
 
     pub not-valid : Sized c → (e : ℕ) → (getD (c .valid) e 0 ≡ 1 → ⊥) → IfValid e
     unfolding isValidIn
     not-valid s e n v = absurd (n (eqb-true _ 1 v))
 
-    module _ (s : Sized c) (e : ℕ) (bytes : List ℕ) (r : Bool) (q : bytes ≡ bytesOf c e) (d : Decides r (Recent (lineOf c e) (frameOf c e) bytes)) where
+    module _ (s : Sized c) (e : ℕ) (bytes : List ℕ) (r : Bool) (q : bytes ≡ heldBytes c e) (d : Decides r (Recent (heldLine c e) (heldFrame c e) bytes)) where
       pub entry-fails : getD (c .valid) e 0 ≡ 1 → not r ≡ true → Decides false (All Recent c)
       unfolding isValidIn
-      entry-fails v = part-fails r (λ h. subst (Recent (lineOf c e) (frameOf c e)) (sym q) (h e (eq-eqb (getD (c .valid) e 0) 1 v))) d
+      entry-fails v = part-fails r (λ h. subst (Recent (heldLine c e) (heldFrame c e)) (sym q) (h e (eq-eqb (getD (c .valid) e 0) 1 v))) d
 
       pub entry-passes : not r ≡ false → IfValid e
-      entry-passes f v = subst (Recent (lineOf c e) (frameOf c e)) q (passes r d f)
+      entry-passes f v = subst (Recent (heldLine c e) (heldFrame c e)) q (passes r d f)
 
     pub entries-end : (n : ℕ) → Sized c → AllBelow n IfValid → 32 ≤ n → Decides true (All Recent c)
     entries-end n s h b = says-yes (λ e v. h e (omega (arith, b, valid-below c e s v)) v)

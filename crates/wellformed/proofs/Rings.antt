@@ -236,10 +236,10 @@ module _ (w : Written) (pages first used : ℕ) (table owners : List ℕ) where
   pub ring-unordered : (o : Bool) → Decides o (InOrder w pages first used table owners) → not o ≡ true → Decides false (WellRing w pages first used table owners)
   ring-unordered o d e = part-fails o ring-order d e
 
-  pub ring-told : (o p : Bool) → first < pages → used ≤ pages → Decides o (InOrder w pages first used table owners) → not o ≡ false
+  pub ring-decided : (o p : Bool) → first < pages → used ≤ pages → Decides o (InOrder w pages first used table owners) → not o ≡ false
       → Decides p (AllPaged w pages first used table owners) → Decides p (WellRing w pages first used table owners)
   unfolding BackedIn indexAt PagedIn
-  ring-told o p b few d e q =
+  ring-decided o p b few d e q =
       let s = passes o d e in
       record {
         only = λ t. record { first-below = b; used-few = few; backed = s .backed; paged = q .only t; rising = steps-rising used _ (s .steps) };

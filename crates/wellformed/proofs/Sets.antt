@@ -9,7 +9,7 @@ use lib.ListN.{getD}
 use Rattle.rules.specs.Sizing.{settingsOf}
 use Rattle.rules.specs.Figure3.{WellCache}
 use Rattle.cache.specs.declared.Cache.{Cache}
-use Rattle.cache.specs.Entries.{Sized, lineOf, isValid, isValidIn}
+use Rattle.cache.specs.Entries.{Sized, heldLine, isValid, isValidIn}
 use Rattle.cache.specs.Shown.{lineIn, shown}
 use Rattle.cache.proofs.Hits.{valid-below}
 use Rattle.wellformed.specs.Decision.{Decides}
@@ -19,14 +19,14 @@ use Rattle.wellformed.proofs.Deciding.{says-yes, says-no, passes, part-
 -- A set: its two entries, and not both with one line.
 module _ (lines : ℕ) (c : Cache) (set : ℕ) where
   abbrev Home : ℕ → Type 0
-  Home e = getD (c .valid) e 0 ≡ 1 → (lineOf c e % 16 ≡ set) × (lineOf c e < lines)
+  Home e = getD (c .valid) e 0 ≡ 1 → (heldLine c e % 16 ≡ set) × (heldLine c e < lines)
 
-  pub twice : getD (c .valid) (2 * set) 0 ≡ 1 → getD (c .valid) (2 * set + 1) 0 ≡ 1 → lineOf c (2 * set) ≡ lineOf c (2 * set + 1)
+  pub twice : getD (c .valid) (2 * set) 0 ≡ 1 → getD (c .valid) (2 * set + 1) 0 ≡ 1 → heldLine c (2 * set) ≡ heldLine c (2 * set + 1)
       → Decides false (SetWell lines c set)
   twice v w e = says-no (λ s. s .once v w e)
 
   module _ (r s : Bool) (d : Decides r (Home (2 * set))) (f : not r ≡ false) (e : Decides s (Home (2 * set + 1))) (g : not s ≡ false) where
-    once-passes : (getD (c .valid) (2 * set) 0 ≡ 1 → getD (c .valid) (2 * set + 1) 0 ≡ 1 → lineOf c (2 * set) ≡ lineOf c (2 * set + 1) → ⊥)
+    once-passes : (getD (c .valid) (2 * set) 0 ≡ 1 → getD (c .valid) (2 * set + 1) 0 ≡ 1 → heldLine c (2 * set) ≡ heldLine c (2 * set + 1) → ⊥)
         → Decides true (SetWell lines c set)
     once-passes once = says-yes record { first = passes r d f; second = passes s e g; once = once }
 
@@ -36,25 +36,25 @@ module _ (lines : ℕ) (c : Cache) (set : ℕ) where
     pub second-free : (getD (c .valid) (2 * set + 1) 0 ≡ 1 → ⊥) → Decides true (SetWell lines c set)
     second-free n = once-passes (λ v w q. n w)
 
-    pub apart : (lineOf c (2 * set) ≡ lineOf c (2 * set + 1) → ⊥) → Decides true (SetWell lines c set)
+    pub apart : (heldLine c (2 * set) ≡ heldLine c (2 * set + 1) → ⊥) → Decides true (SetWell lines c set)
     apart n = once-passes (λ v w q. n q)
 
 -- An entry as a way of Figure 3's cache.
 module _ (c : Cache) (e : ℕ) where
-  in-valid : getD (c .valid) e 0 ≡ 1 → lineIn c e ≡ some (lineOf c e)
+  in-valid : getD (c .valid) e 0 ≡ 1 → lineIn c e ≡ some (heldLine c e)
   unfolding lineIn isValidIn
-  in-valid v = ap (λ (b : Bool). cond b (some (lineOf c e)) none) (eq-eqb (getD (c .valid) e 0) 1 v)
+  in-valid v = ap (λ (b : Bool). cond b (some (heldLine c e)) none) (eq-eqb (getD (c .valid) e 0) 1 v)
 
   record Within (l : ℕ) : Type 0 where
     pub valid : getD (c .valid) e 0 ≡ 1
-    pub line : lineOf c e ≡ l
+    pub line : heldLine c e ≡ l
     pub below : Sized c → e < 32
 
   valid-in : (l : ℕ) → lineIn c e ≡ some l → Within l
   unfolding lineIn isValidIn
   valid-in l h = go (isValid c e) refl h
     where
-      go : (b : Bool) → isValid c e ≡ b → cond b (some (lineOf c e)) none ≡ some l → Within l
+      go : (b : Bool) → isValid c e ≡ b → cond b (some (heldLine c e)) none ≡ some l → Within l
       go true p h = record { valid = eqb-true _ 1 p; line = cc; below = λ s. valid-below c e s p }
       go false p h = let z : _≡_ {A = ℕ} 0 1 = cc in absurd (omega arith)
 

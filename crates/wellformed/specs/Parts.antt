@@ -6,11 +6,11 @@ use mathlib.Core.List.{List}
 use lib.ListN.{length, getD}
 use Rattle.rules.specs.Line.{Line}
 use Rattle.cache.specs.declared.Cache.{Cache}
-use Rattle.cache.specs.Entries.{lineOf}
+use Rattle.cache.specs.Entries.{heldLine}
 use Rattle.pages.specs.Table.{placesOf, entryOf, neededAt, AsksTable}
 use Rattle.pages.specs.Ring.{nthPage, indexAt, Backed, Paged}
 use Rattle.versions.specs.Newest.{newestOf}
-use Rattle.written.specs.Bits.{Written, Lent}
+use Rattle.written.specs.Bits.{Written, AsksWritten}
 
 -- A page whose owner is a needed place for which the table has the page. (Shut, so that the lists stand bare in it.)
 unfoldable pub BackedIn : Written → (table owners : List ℕ) → ℕ → Type 0
@@ -30,9 +30,9 @@ AllPaged w pages first used table owners = (x : ℕ) → x < placesOf w → Page
 
 -- A set of the cache whose valid entries are in it and below L, and not both with one line.
 pub record SetWell (lines : ℕ) (c : Cache) (set : ℕ) : Type 0 where
-  pub first : getD (c .valid) (2 * set) 0 ≡ 1 → (lineOf c (2 * set) % 16 ≡ set) × (lineOf c (2 * set) < lines)
-  pub second : getD (c .valid) (2 * set + 1) 0 ≡ 1 → (lineOf c (2 * set + 1) % 16 ≡ set) × (lineOf c (2 * set + 1) < lines)
-  pub once : getD (c .valid) (2 * set) 0 ≡ 1 → getD (c .valid) (2 * set + 1) 0 ≡ 1 → lineOf c (2 * set) ≡ lineOf c (2 * set + 1) → ⊥
+  pub first : getD (c .valid) (2 * set) 0 ≡ 1 → (heldLine c (2 * set) % 16 ≡ set) × (heldLine c (2 * set) < lines)
+  pub second : getD (c .valid) (2 * set + 1) 0 ≡ 1 → (heldLine c (2 * set + 1) % 16 ≡ set) × (heldLine c (2 * set + 1) < lines)
+  pub once : getD (c .valid) (2 * set) 0 ≡ 1 → getD (c .valid) (2 * set + 1) 0 ≡ 1 → heldLine c (2 * set) ≡ heldLine c (2 * set + 1) → ⊥
 
 -- A line below L with the frame and the bytes of its most recent version in memory.
 abbrev pub RecentIn : Written → (pages live : ℕ) → (archive pool table : List ℕ) → (line frame : ℕ) → Line → Type 0
@@ -45,7 +45,7 @@ Bytes n xs = (i : ℕ) → i < n → getD xs i 0 < 256
 
 -- What is asked to decide the written bits' share,
 pub record AsksBits (w : Written) (live : ℕ) : Type 0 where
-  pub lent : Lent w
+  pub lent : AsksWritten w
   pub lines-by : w .lines % 8 ≡ 0
   pub live-within : live ≤ w .frames
 

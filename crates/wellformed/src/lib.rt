@@ -224,10 +224,10 @@ fn is_set_well(cache: Cache, lines: u32, set: u32) -> bool
 {
     let first = 2 * (set as usize);
     let second = first + 1;
-    if !is_home(cache.valid[first], cache.lines[first], set, lines) {
+    if !is_home(cache.valid[first], cache.held[first], set, lines) {
         return false;
     }
-    if !is_home(cache.valid[second], cache.lines[second], set, lines) {
+    if !is_home(cache.valid[second], cache.held[second], set, lines) {
         return false;
     }
     if cache.valid[first] != 1 {
@@ -236,7 +236,7 @@ fn is_set_well(cache: Cache, lines: u32, set: u32) -> bool
     if cache.valid[second] != 1 {
         return true;
     }
-    if cache.lines[first] == cache.lines[second] {
+    if cache.held[first] == cache.held[second] {
         return false;
     }
     true
@@ -324,8 +324,8 @@ pub fn coherent(
     ensures { λ r. ⌜ Decides r (All (RecentIn (writtenAt shape (now (groups .entry)) (now (history .entry))) pages live (now (archive .entry)) (now (pool .entry)) (now (table .entry))) cache) ⌝ }
     ensures sized { λ _. ⌜ Sized cache ⌝ }
 {
-    let held = cache.lines;
-    let numbers = cache.frames;
+    let held = cache.held;
+    let numbers = cache.origins;
     let valid = cache.valid;
     let mut e = 0;
     while e < 32 {

@@ -12,7 +12,7 @@ use lib.ListN.{length, getD}
 use Rattle.frames.specs.Circle.{frameAt, indexOf}
 use Rattle.numbers.specs.Digits.{bit}
 use Rattle.frames.proofs.Circle.{frame-below, index-frame, frame-index}
-use Rattle.written.specs.Bits.{Written, writtenOf, Lent, placeOf, tagOf, boundOf, standing, effective}
+use Rattle.written.specs.Bits.{Written, writtenOf, AsksWritten, placeOf, tagOf, boundOf, standing, effective}
 use Rattle.written.specs.Steps.{Ordered, lowerBound, lowered}
 use Rattle.written.specs.Well.{WellBits}
 use Rattle.lists.proofs.Lists.{rewrite-at, rewrite-length}
@@ -88,7 +88,7 @@ pub record Collected (w : Written) (k : ℕ) (groups : List ℕ) : Type 0 where
   pub stale : (i m : ℕ) → i < k → m < w .lines → bit (groupOf w groups (frameAt (w .frames) (w .omf) i) m) (frameAt (w .frames) (w .omf) i % 16) ≡ true
       → effective w i m ≡ false
 
-module _ (w : Written) (lent : Lent w) (k : ℕ) (below : k < w .frames) (groups : List ℕ) (c : Collected w k groups) where
+module _ (w : Written) (lent : AsksWritten w) (k : ℕ) (below : k < w .frames) (groups : List ℕ) (c : Collected w k groups) where
   abbrev pub advanced : Written
   advanced = writtenOf (w .lines) (w .frames) (frameAt (w .frames) (w .omf) k) groups (lowered k (w .history))
 

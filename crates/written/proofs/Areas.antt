@@ -8,7 +8,7 @@ use native.Mathlib.Omega.{arith}
 use lib.ListN.{length}
 use Rattle.frames.specs.Circle.{frameAt}
 use Rattle.frames.proofs.Circle.{frame-below, frame-cases}
-use Rattle.written.specs.Bits.{Written, writtenOf, Lent, placeOf, Asks, Near}
+use Rattle.written.specs.Bits.{Written, writtenOf, AsksWritten, placeOf, Asks, Near}
 
 -- a step of d places down within the area
 module _ (n omf : ℕ) (h : omf < n) where
@@ -65,8 +65,8 @@ asks-near w l i f a e =
     )
 
 -- Lent pieces of the same lengths, with OMF on the circle, are lent alike.
-pub lent-kept : (w : Written) (omf : ℕ) (groups history : List ℕ) → Lent w → omf < w .frames → length groups ≡ length (w .groups)
-    → length history ≡ length (w .history) → Lent (writtenOf (w .lines) (w .frames) omf groups history)
+pub lent-kept : (w : Written) (omf : ℕ) (groups history : List ℕ) → AsksWritten w → omf < w .frames → length groups ≡ length (w .groups)
+    → length history ≡ length (w .history) → AsksWritten (writtenOf (w .lines) (w .frames) omf groups history)
 lent-kept w omf groups history q below g h =
     record {
       lines-some = q .lines-some;

@@ -12,7 +12,7 @@ use lib.Seq.{getD-set-same, getD-set-other}
 use Rattle.frames.specs.Circle.{frameAt}
 use Rattle.numbers.specs.Digits.{bit}
 use Rattle.numbers.proofs.Digits.{bit-none, digit-past, set-small}
-use Rattle.written.specs.Bits.{Written, writtenOf, Lent, Asks, placeOf, tagOf, effective, boundOf}
+use Rattle.written.specs.Bits.{Written, writtenOf, AsksWritten, Asks, placeOf, tagOf, effective, boundOf}
 use Rattle.written.specs.Steps.{regrouped, withWritten, blanked}
 use Rattle.written.specs.Well.{WellBits}
 use Rattle.lists.proofs.Lists.{rewrite-at, rewrite-length}
@@ -80,7 +80,7 @@ module _ (lines frames : ℕ) (groups history : List ℕ) (some-lines : 0 < line
   abbrev pub started : Written
   started = writtenOf lines frames 0 (blanked lines frames groups) (set history 0 65535)
 
-  lent : Lent started
+  lent : AsksWritten started
   unfolding blanked
   lent =
       record {

@@ -13,7 +13,7 @@ use lib.Seq.{getD-set-same, getD-set-other}
 use Rattle.frames.specs.Circle.{frameAt, indexOf}
 use Rattle.numbers.specs.Digits.{bit}
 use Rattle.frames.proofs.Circle.{frame-below, index-frame}
-use Rattle.written.specs.Bits.{Written, writtenOf, Lent, placeOf, tagOf, boundOf, standing, effective}
+use Rattle.written.specs.Bits.{Written, writtenOf, AsksWritten, placeOf, tagOf, boundOf, standing, effective}
 use Rattle.written.specs.Steps.{maskedOf, Ordered, entered, Entered, swept, nextTag, RolledBack}
 use Rattle.written.specs.Well.{WellBits}
 use Rattle.lists.proofs.Lists.{rewrite-at, rewrite-length}
@@ -29,7 +29,7 @@ ltb-min k a b = go (decLt k a) (decLt k b)
     go (no p) q = le-ltb k (min a b) (omega arith) ∙ sym (ap (λ (x : Bool). x && ltb k b) (le-ltb k a (omega arith)))
 
 -- where a frame's group stands
-pub group-place : (w : Written) → Lent w → (k m : ℕ) → m < w .lines → placeOf (w .lines) (frameAt (w .frames) (w .omf) k / 16) m < w .frames / 16 * w .lines
+pub group-place : (w : Written) → AsksWritten w → (k m : ℕ) → m < w .lines → placeOf (w .lines) (frameAt (w .frames) (w .omf) k / 16) m < w .frames / 16 * w .lines
 group-place w q k m b =
     place-below (w .lines) (w .frames / 16) (frameAt (w .frames) (w .omf) k / 16) m
     (area-below (w .frames) (frameAt (w .frames) (w .omf) k) (q .frames-by) (frame-below (w .frames) (w .omf) (q .omf-below) k)) b

@@ -120,7 +120,7 @@ windowOf frames omf area g from end =
     cutOf g s (min 16 (frames - s)) from end
 
 -- What the functions ask of the numbers and the lent lengths; the store tests it.
-pub record Lent (w : Written) : Type 0 where
+pub record AsksWritten (w : Written) : Type 0 where
   pub lines-some : 0 < w .lines
   pub lines-few : w .lines ≤ 4096
   pub frames-by : w .frames % 16 ≡ 0
@@ -131,7 +131,7 @@ pub record Lent (w : Written) : Type 0 where
 
 -- and of a line and an index besides.
 pub record Asks (w : Written) (line index : ℕ) : Type 0 where
-  pub lent : Lent w
+  pub lent : AsksWritten w
   pub line-below : line < w .lines
   pub index-below : index < w .frames
 
@@ -143,7 +143,7 @@ pub record Near (lines area line : ℕ) : Type 0 where
 
 -- What the test of a block asks: its lines below L, and the window's end within the circle.
 pub record AsksBlock (w : Written) (block end : ℕ) : Type 0 where
-  pub lent : Lent w
+  pub lent : AsksWritten w
   pub block-below : block * 8 + 8 ≤ w .lines
   pub end-within : end ≤ w .frames
 

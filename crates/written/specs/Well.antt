@@ -5,7 +5,7 @@ use mathlib.Core.Bool.{true, false}
 use mathlib.Core.List.{List}
 use lib.ListN.{getD}
 use Rattle.numbers.specs.Digits.{bit}
-use Rattle.written.specs.Bits.{Written, Lent, tagOf, effective}
+use Rattle.written.specs.Bits.{Written, AsksWritten, tagOf, effective}
 use Rattle.written.specs.Steps.{Ordered}
 
 -- Every group with a bit set has a tag that is in use.
@@ -19,7 +19,7 @@ OnlyLive w live = (k l : ℕ) → live ≤ k → k < w .frames → l < w .lines 
 
 pub record WellBits (w : Written) (tag live : ℕ) : Type 0 where
   -- the numbers are within their limits and the lists long enough: a group or an entry could lie outside them
-  pub lent : Lent w
+  pub lent : AsksWritten w
   -- tags have 8 bits: a larger one would be stored as another
   pub tag-below : tag < 256
   -- a group with a bit set has no tag above the current one: the next tag would bring the bit to life

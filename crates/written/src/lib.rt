@@ -8,7 +8,7 @@ ghost use lib.ListN.{length, getD};
 ghost use Rattle.rules.specs.Seen.{needs};
 ghost use Rattle.frames.specs.Circle.{Turn, indexOf};
 ghost use Rattle.lists.specs.Lists.{rewrite};
-ghost use Rattle.written.specs.Bits.{writtenAt, Lent, Asks, AsksBlock, AsksSet, Near, placeOf, boundOf, effective, newestFrom, newestRun, newestInArea, downOf, upOf, standsIn, runHas, blockHas, setIn, firstIndex, beforeWrap, afterWrap, cutOf, windowOf};
+ghost use Rattle.written.specs.Bits.{writtenAt, AsksWritten, Asks, AsksBlock, AsksSet, Near, placeOf, boundOf, effective, newestFrom, newestRun, newestInArea, downOf, upOf, standsIn, runHas, blockHas, setIn, firstIndex, beforeWrap, afterWrap, cutOf, windowOf};
 ghost use Rattle.written.specs.Steps.{AsksWindow, AsksReset, regrouped, withWritten, Entered, maskedOf, swept, unsetIn, clearedBlock, lowerBound, lowered, RolledBack, blanked};
 
 // What places the lent lists: L, the circle of frames and OMF.
@@ -355,7 +355,7 @@ fn sweep_area(groups: &mut [u32], history: &[u16], shape: Shape, area: u32)
 
 // Rewrites every group so, working area by working area.
 fn sweep(groups: &mut [u32], history: &[u16], shape: Shape)
-    requires { ⌜ Lent (writtenAt shape (now groups) (now history)) ⌝ }
+    requires { ⌜ AsksWritten (writtenAt shape (now groups) (now history)) ⌝ }
     ensures { λ _. ⌜ now (groups .exit) ≡ swept (writtenAt shape (now (groups .entry)) (now (history .entry))) ⌝ }
 {
     let lines = shape.lines;
@@ -373,7 +373,7 @@ fn sweep(groups: &mut [u32], history: &[u16], shape: Shape)
 // A rollback that keeps so many frames: entered in the history, with the next tag, which is given; past the last one all groups are
 // swept and the tags start afresh. No written bit is cleared otherwise.
 pub fn rollback(groups: &mut [u32], history: &mut [u16], shape: Shape, tag: u32, kept: u16) -> u32
-    requires { ⌜ (Lent (writtenAt shape (now groups) (now history))) × (tag < 256) ⌝ }
+    requires { ⌜ (AsksWritten (writtenAt shape (now groups) (now history))) × (tag < 256) ⌝ }
     ensures { λ r. ⌜ RolledBack (writtenAt shape (now (groups .entry)) (now (history .entry))) tag kept (now (groups .exit)) (now (history .exit)) r ⌝ }
 {
     enter(history, tag, kept);

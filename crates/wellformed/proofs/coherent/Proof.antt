@@ -18,7 +18,7 @@ abbrev μ-loop : tie.MeasureT-loop
 μ-loop cache archive pool groups table history shape pages live held numbers valid e₀ e = 32 - e
 
 loop-holds : tie.Need-loop-holds Inv-loop μ-loop
-loop-holds c = (record { lines = search needs; frames = search needs; valid = search needs; bytes = search needs; last = search needs }, all-start _)
+loop-holds c = (record { held = search needs; origins = search needs; valid = search needs; bytes = search needs; last = search needs }, all-start _)
 
 cast-at : tie.Need-cast-at Inv-loop μ-loop
 cast-at c = search needs

@@ -33,7 +33,7 @@ loop-again : tie.Need-loop-again Inv-loop μ-loop
 loop-again c = all-next _ _ (c .before .before .before .loop .inv) (passes _ (c .before .is-set-well .ensures) (c .if1 .left))
 
 returns-2 : tie.Need-returns-2 Inv-loop μ-loop
-returns-2 c = sets-end _ _ _ (record { lines = search needs; frames = search needs; valid = search needs; bytes = search needs; last = search needs }) (c .before .loop .inv) (c .loop-test .left)
+returns-2 c = sets-end _ _ _ (record { held = search needs; origins = search needs; valid = search needs; bytes = search needs; last = search needs }) (c .before .loop .inv) (c .loop-test .left)
 
 pub entries-spec : {M : Type 1} → statement M
 entries-spec =

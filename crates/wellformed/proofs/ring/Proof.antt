@@ -2,7 +2,7 @@
 use borrow.Author.Needs.{needs}
 use native.Mathlib.Omega.{arith}
 use Rattle.wellformed.proofs.Deciding.{says-no}
-use Rattle.wellformed.proofs.Rings.{ring-unordered, ring-told}
+use Rattle.wellformed.proofs.Rings.{ring-unordered, ring-decided}
 use Rattle.wellformed.proofs.ring.Statement.{statement}
 use Rattle.wellformed.proofs.ring.Tie as tie
 
@@ -27,7 +27,7 @@ returns-4 c =
     let o : tie.After-in-order = search in
     let u : tie.Else2 = search in
     let f : tie.Else1 = search in
-    ring-told _ _ _ _ _ _ _ _ (f .if1 .left) (u .if2 .left) (o .in-order .ensures) (e .if3 .left) (c .all-paged .ensures)
+    ring-decided _ _ _ _ _ _ _ _ (f .if1 .left) (u .if2 .left) (o .in-order .ensures) (e .if3 .left) (c .all-paged .ensures)
 
 pub ring-spec : {M : Type 1} → statement M
 ring-spec = tie.close (tie.spec returns returns-2 in-order-requires returns-3 all-paged-requires returns-4)

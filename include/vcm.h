@@ -37,19 +37,31 @@ extern "C" {
 
 /* ---- Refusals ---------------------------------------------------------------------------------------------------------------------
  *
- * A call gives 0, or the first of these that holds. (1, 2 and 3 belong to the session runner.)
+ * A call gives 0, or the first of these that holds. (1, 2 and 3 belong to the session runner.) The Rust crate has the same names.
  */
 #define VCM_OK 0
-#define VCM_LIMITS 4        /* L, F or P is outside its limits (vcm_reset, vcm_sizes) */
-#define VCM_BAD_STATE 5     /* the state given holds settings outside their limits, or a CMF or OMF outside 0 to F - 1 */
-#define VCM_LENT_SHORT 6    /* a lent piece is shorter than vcm_sizes says */
-#define VCM_WIDTH 7         /* the width is not 1, 2 or 4 */
-#define VCM_ALIGNMENT 8     /* the address is not a multiple of the width */
-#define VCM_OUTSIDE 9       /* the address plus the width passes 16 x L, or the line number is not below L */
-#define VCM_VALUE 10        /* the value needs more bytes than the width */
-#define VCM_MARKS 11        /* k is 0 or more than the marked states, which are one less than the live frames */
-#define VCM_FRAMES_FULL 12  /* MARK finds all F frames live */
-#define VCM_PAGES_FULL 13   /* WRITE's page in the current frame is not needed yet, and P pages are needed already */
+#define VCM_REFUSAL_SETTINGS 4  /* L, F or P is outside its limits (vcm_reset, vcm_sizes) */
+#define VCM_REFUSAL_STATE 5     /* the state given holds settings outside their limits, or a CMF or OMF outside 0 to F - 1 */
+#define VCM_REFUSAL_MEMORY 6    /* a lent piece is shorter than vcm_sizes says */
+#define VCM_REFUSAL_WIDTH 7     /* the width is not 1, 2 or 4 */
+#define VCM_REFUSAL_ALIGNMENT 8 /* the address is not a multiple of the width */
+#define VCM_REFUSAL_RANGE 9     /* the address plus the width passes 16 x L, or the line number is not below L */
+#define VCM_REFUSAL_VALUE 10    /* the value needs more bytes than the width */
+#define VCM_REFUSAL_MARKS 11    /* k is 0 or more than the marked states, which are one less than the live frames */
+#define VCM_REFUSAL_FRAMES 12   /* MARK finds all F frames live */
+#define VCM_REFUSAL_PAGES 13    /* WRITE's page in the current frame is not needed yet, and P pages are needed already */
+
+/* The names of before, for programs that use them. */
+#define VCM_LIMITS VCM_REFUSAL_SETTINGS
+#define VCM_BAD_STATE VCM_REFUSAL_STATE
+#define VCM_LENT_SHORT VCM_REFUSAL_MEMORY
+#define VCM_WIDTH VCM_REFUSAL_WIDTH
+#define VCM_ALIGNMENT VCM_REFUSAL_ALIGNMENT
+#define VCM_OUTSIDE VCM_REFUSAL_RANGE
+#define VCM_VALUE VCM_REFUSAL_VALUE
+#define VCM_MARKS VCM_REFUSAL_MARKS
+#define VCM_FRAMES_FULL VCM_REFUSAL_FRAMES
+#define VCM_PAGES_FULL VCM_REFUSAL_PAGES
 
 /* ---- Structs ----------------------------------------------------------------------------------------------------------------------
  *

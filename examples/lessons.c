@@ -10,43 +10,22 @@
 
 enum { ROOMS = 8, FRAMES = 16, PAGES = 4 };
 
+static VCM_BLOCK(ROOMS, FRAMES, PAGES) block;
 static vcm_state state;
 static vcm_memory memory;
 
 /* For a call that the plan cannot do without. */
 static void go_on(uint32_t refusal) {
     if (refusal != VCM_OK) {
-        fprintf(stderr, "refusal %u\n", (unsigned)refusal);
+        fprintf(stderr, "refusal %u: %s\n", (unsigned)refusal, vcm_refusal_text(refusal));
         exit(1);
     }
 }
 
-/* Any contents will do, but they must be some: fresh memory that was never written has none in C. */
-static void *lent(size_t bytes) {
-    void *piece = calloc(bytes, 1);
-    if (piece == NULL) {
-        fputs("no memory\n", stderr);
-        exit(1);
-    }
-    return piece;
-}
-
-/* Lends memory of exactly the need, and starts the store in it. */
+/* Opens the store in the block. */
 static void start(void) {
-    vcm_need need = vcm_sizes(ROOMS, FRAMES, PAGES);
-    memory.archive = lent(need.archive);
-    memory.archive_len = need.archive;
-    memory.pool = lent(need.pool);
-    memory.pool_len = need.pool;
-    memory.groups = lent(need.groups);
-    memory.groups_len = need.groups / sizeof *memory.groups;
-    memory.table = lent(need.table);
-    memory.table_len = need.table / sizeof *memory.table;
-    memory.owners = lent(need.owners);
-    memory.owners_len = need.owners / sizeof *memory.owners;
-    memory.history = lent(need.history);
-    memory.history_len = need.history / sizeof *memory.history;
     state = vcm_blank();
+    memory = vcm_parts(&block, sizeof block, ROOMS, FRAMES, PAGES);
     go_on(vcm_reset(&state, &memory, ROOMS, FRAMES, PAGES));
 }
 
@@ -57,6 +36,7 @@ static void place(uint32_t room, uint32_t hour, uint32_t lesson) {
 
 static void show(uint32_t room, uint32_t hour) {
     vcm_reading r = vcm_read(&state, &memory, 2, 16 * room + 2 * hour);
+    go_on(r.refusal);
     printf("room %u at hour %u: lesson %u, ", (unsigned)room, (unsigned)hour, (unsigned)r.value);
     switch (r.origin) {
     case VCM_CACHE:
@@ -72,7 +52,7 @@ static void show(uint32_t room, uint32_t hour) {
 
 static void show_room(uint32_t room) {
     uint8_t bytes[16] = {0};
-    vcm_line(&state, &memory, room, bytes);
+    go_on(vcm_line(&state, &memory, room, bytes));
     printf("room %u: [%u", (unsigned)room, (unsigned)bytes[0]);
     for (int i = 1; i < 16; i++) {
         printf(", %u", (unsigned)bytes[i]);
@@ -109,6 +89,7 @@ int main(void) {
         printf("no mark is left: refusal %u\n", (unsigned)refusal);
     }
     vcm_counted counts = vcm_counts(&state, &memory);
+    go_on(counts.refusal);
     printf("live frames %u, pages %u\n", (unsigned)counts.live, (unsigned)counts.pages);
     show_room(1);
     refusal = vcm_line_refusal(&state, &memory, 8);
@@ -116,6 +97,7 @@ int main(void) {
         printf("there is no room 8: refusal %u\n", (unsigned)refusal);
     }
     vcm_verdict verdict = vcm_check(&state, &memory);
+    go_on(verdict.refusal);
     printf("well-formed: %s\n", verdict.yes ? "yes" : "no");
     return 0;
 }

@@ -5,11 +5,19 @@
  * back what was there before, ADVANCE folds the oldest frames into the archive. Nothing is copied at a mark and no written bit is
  * cleared at a rollback.
  *
- * Link with libvcm.a, which `rt staticlib vcm` writes to target/staticlib (x86-64 Linux). It calls memcpy and memset alone, allocates
- * nothing and keeps nothing between calls: all that a store is lies in its state and in the six pieces of memory that the caller lends.
+ * Link with libvcm.a (x86-64 Linux), which `tools/library` writes to target/staticlib and `tools/install PREFIX` puts where pkg-config
+ * finds it. It calls memcpy and memset alone, allocates nothing and keeps nothing between calls: all that a store is lies in its state
+ * and in the six pieces of memory that the caller lends.
+ *
+ *     static VCM_BLOCK(64, 16, 32) block;                                     memory for 64 lines, 16 frames and 32 pages
+ *
+ *     vcm_state state = vcm_blank();
+ *     vcm_memory memory = vcm_parts(&block, sizeof block, 64, 16, 32);
+ *     uint32_t refusal = vcm_reset(&state, &memory, 64, 16, 32);              0, and the store is open
  *
  * Every exported function is proved: it ends, it stays inside the lent memory, it is refused exactly for the reasons below (but 13 on
- * storage that CHECK rejects), and a refused call leaves state and lent memory untouched. It asks nothing of the state and of what the lent memory holds. What a caller owes is C's own:
+ * storage that CHECK rejects), and a refused call leaves state and lent memory untouched. It asks nothing of the state and of what the
+ * lent memory holds. What a caller owes is C's own:
  *   - each pointer is aligned for its type and points to as many elements as its length says; it is never NULL, also for length 0;
  *   - the elements, and the state, have been given some value, whatever it is: memory fresh from malloc has none, calloc's has;
  *   - the state, the six pieces and LINE's bytes do not overlap;
@@ -21,11 +29,30 @@
 #include <stddef.h>
 #include <stdint.h>
 
-#ifdef __cplusplus
-#define VCM_STATIC_ASSERT(condition, text) static_assert(condition, text)
-extern "C" {
+/* CHANGELOG.md says what each version brought. */
+#define VCM_VERSION "0.2.0"
+
+/* A program does not compile where a struct has another size than in libvcm.a. C99 has no assertion for that, but there too an array of
+ * negative size is an error. */
+#if defined(__cplusplus)
+#define VCM_HAS_SIZE(type, bytes) static_assert(sizeof(type) == (bytes), #type " has another size in libvcm.a")
+#elif defined(__STDC_VERSION__) && __STDC_VERSION__ >= 201112L
+#define VCM_HAS_SIZE(type, bytes) _Static_assert(sizeof(type) == (bytes), #type " has another size in libvcm.a")
 #else
-#define VCM_STATIC_ASSERT(condition, text) _Static_assert(condition, text)
+#define VCM_HAS_SIZE(type, bytes) typedef char vcm_size_of_##type[sizeof(type) == (bytes) ? 1 : -1]
+#endif
+
+/* Has the compiler warn of a call whose result nobody looks at, where it can. */
+#if (defined(__cplusplus) && __cplusplus >= 201703L) || (defined(__STDC_VERSION__) && __STDC_VERSION__ >= 202311L)
+#define VCM_MUST_CHECK [[nodiscard]]
+#elif defined(__GNUC__)
+#define VCM_MUST_CHECK __attribute__((warn_unused_result))
+#else
+#define VCM_MUST_CHECK
+#endif
+
+#ifdef __cplusplus
+extern "C" {
 #endif
 
 /* ---- Settings ---------------------------------------------------------------------------------------------------------------------
@@ -62,6 +89,10 @@ extern "C" {
 #define VCM_MARKS VCM_REFUSAL_MARKS
 #define VCM_FRAMES_FULL VCM_REFUSAL_FRAMES
 #define VCM_PAGES_FULL VCM_REFUSAL_PAGES
+
+/* What a number means, and what helps, in plain words: of 0, of each refusal, 1 to 3 among them, and "unknown" of any other number. Never
+ * NULL. */
+static inline const char *vcm_refusal_text(uint32_t refusal);
 
 /* ---- Structs ----------------------------------------------------------------------------------------------------------------------
  *
@@ -134,19 +165,19 @@ typedef struct vcm_verdict {
     uint32_t yes;     /* 4: 1 for yes, 0 for no */
 } vcm_verdict;
 
-VCM_STATIC_ASSERT(sizeof(size_t) == 8, "libvcm.a is built for 64 bits");
-VCM_STATIC_ASSERT(sizeof(vcm_cache) == 752, "vcm_cache");
-VCM_STATIC_ASSERT(sizeof(vcm_registers) == 32, "vcm_registers");
-VCM_STATIC_ASSERT(sizeof(vcm_state) == 784, "vcm_state");
-VCM_STATIC_ASSERT(sizeof(vcm_need) == 56, "vcm_need");
-VCM_STATIC_ASSERT(sizeof(vcm_reading) == 16, "vcm_reading");
-VCM_STATIC_ASSERT(sizeof(vcm_counted) == 12, "vcm_counted");
-VCM_STATIC_ASSERT(sizeof(vcm_verdict) == 8, "vcm_verdict");
+VCM_HAS_SIZE(size_t, 8);
+VCM_HAS_SIZE(vcm_cache, 752);
+VCM_HAS_SIZE(vcm_registers, 32);
+VCM_HAS_SIZE(vcm_state, 784);
+VCM_HAS_SIZE(vcm_need, 56);
+VCM_HAS_SIZE(vcm_reading, 16);
+VCM_HAS_SIZE(vcm_counted, 12);
+VCM_HAS_SIZE(vcm_verdict, 8);
 
 /* ---- Lent memory ------------------------------------------------------------------------------------------------------------------
  *
  * Every call is lent all six pieces, each as a pointer and its length in ELEMENTS: the bytes of vcm_sizes over the size of an element. A
- * longer piece is fine, and what lies past the need is never touched.
+ * longer piece is fine, and what lies past the need is never touched. They may lie anywhere; in one block they are had by vcm_parts.
  */
 typedef struct vcm_memory {
     uint8_t *archive;
@@ -163,10 +194,58 @@ typedef struct vcm_memory {
     size_t history_len;
 } vcm_memory;
 
+/* The bytes of each piece, as vcm_sizes says them, for settings within their limits. Constants where the settings are. */
+#define VCM_ARCHIVE_BYTES(L) ((size_t)16 * (size_t)(L))
+#define VCM_POOL_BYTES(P) ((size_t)128 * (size_t)(P))
+#define VCM_GROUPS_BYTES(L, F) ((size_t)(L) * (size_t)(F) / 4)
+#define VCM_TABLE_BYTES(L, F) ((size_t)(L) * (size_t)(F) / 4)
+#define VCM_OWNERS_BYTES(P) ((size_t)4 * (size_t)(P))
+#define VCM_HISTORY_BYTES ((size_t)512)
+
+/* Whether the settings are within their limits: 1 or 0. */
+#define VCM_SETTINGS_FIT(L, F, P)                                                                                      \
+    ((size_t)(L) >= 8 && (size_t)(L) <= 4096 && (size_t)(L) % 8 == 0 && (size_t)(F) >= 16 && (size_t)(F) <= 256 &&     \
+     (size_t)(F) % 16 == 0 && (size_t)(P) >= 1 && (size_t)(P) <= 4096)
+
+/* The bytes of all six pieces together, or 0 for settings outside their limits. Every piece is a multiple of 4 bytes, so that one lies
+ * behind the other without a gap, in the order of vcm_memory. */
+#define VCM_BLOCK_BYTES(L, F, P)                                                                                       \
+    (VCM_SETTINGS_FIT(L, F, P) ? VCM_ARCHIVE_BYTES(L) + VCM_POOL_BYTES(P) + VCM_GROUPS_BYTES(L, F) +                   \
+                                     VCM_TABLE_BYTES(L, F) + VCM_OWNERS_BYTES(P) + VCM_HISTORY_BYTES                   \
+                               : (size_t)0)
+
+/* How a block is to be aligned. calloc's memory is, and an array of uint32_t; an array of char need not be. */
+#define VCM_BLOCK_ALIGN 4
+
+/* The type of a block of just these bytes, for memory that is declared:
+ *
+ *     static VCM_BLOCK(64, 16, 32) block;
+ *
+ * Settings outside their limits do not compile. Each piece is an array of its own type, so that a program may look at it as such; in an
+ * array of uint32_t (block[VCM_BLOCK_BYTES(64, 16, 32) / 4], which serves as well) C lets it look by memcpy alone. */
+#define VCM_BLOCK(L, F, P)                                                                                             \
+    struct {                                                                                                           \
+        uint8_t archive[VCM_ARCHIVE_BYTES(L)];                                                                         \
+        uint8_t pool[VCM_POOL_BYTES(P)];                                                                               \
+        uint32_t groups[VCM_GROUPS_BYTES(L, F) / 4];                                                                   \
+        uint16_t table[VCM_TABLE_BYTES(L, F) / 2];                                                                     \
+        uint32_t owners[VCM_OWNERS_BYTES(P) / 4];                                                                      \
+        uint16_t history[VCM_SETTINGS_FIT(L, F, P) ? 256 : -1];                                                        \
+    }
+
+/* VCM_BLOCK_BYTES by a call, for settings that are known when the program runs: what to ask calloc for, or 0. */
+static inline size_t vcm_block_bytes(uint32_t lines, uint32_t frames, uint32_t pages);
+
+/* The six pieces in a block of so many bytes, one behind the other from its start on, each of exactly its need. Where the settings are
+ * outside their limits or the block is NULL, not aligned or too short, all six have length 0, so that the vcm_reset which follows is
+ * refused with 4 or 6: nothing is to be tested in between. */
+static inline vcm_memory vcm_parts(void *block, size_t bytes, uint32_t lines, uint32_t frames, uint32_t pages);
+
 /* ---- Calls ------------------------------------------------------------------------------------------------------------------------
  *
  * A store is started by vcm_reset on any state and any lent contents, say vcm_blank(). Each later call gets the state and the lent memory
- * just as the call before it, refused or not, left them. The calls that give a uint32_t give their refusal or 0.
+ * just as the call before it, refused or not, left them. The calls that give a uint32_t give their refusal or 0. Those that change
+ * the store, and READ and LINE, whose answer is worth nothing where they are refused, have the compiler warn of a result not looked at.
  */
 
 /* The sizing call: the exact need of each piece. Refused: 4. */
@@ -176,29 +255,31 @@ vcm_need vcm_sizes(uint32_t lines, uint32_t frames, uint32_t pages);
 vcm_state vcm_blank(void);
 
 /* RESET: archive all zero, one live frame, no written bits, all pages free, cache empty. Refused: 4, 6. */
-static inline uint32_t vcm_reset(vcm_state *state, const vcm_memory *memory, uint32_t lines, uint32_t frames, uint32_t pages);
+VCM_MUST_CHECK static inline uint32_t vcm_reset(vcm_state *state, const vcm_memory *memory, uint32_t lines, uint32_t frames,
+                                                uint32_t pages);
 
 /* WRITE: width 1, 2 or 4 bytes, most significant byte first, to the current frame. Refused: 5, 6, 7, 8, 9, 10, 13. */
-static inline uint32_t vcm_write(vcm_state *state, const vcm_memory *memory, uint32_t width, uint32_t address, uint32_t value);
+VCM_MUST_CHECK static inline uint32_t vcm_write(vcm_state *state, const vcm_memory *memory, uint32_t width,
+                                                uint32_t address, uint32_t value);
 
 /* READ: the value and its origin. The state's cache has the line afterwards. Refused: 5, 6, 7, 8, 9. */
-static inline vcm_reading vcm_read(vcm_state *state, const vcm_memory *memory, uint32_t width, uint32_t address);
+VCM_MUST_CHECK static inline vcm_reading vcm_read(vcm_state *state, const vcm_memory *memory, uint32_t width, uint32_t address);
 
 /* LINE: copies the 16 bytes of the line's most recent version; refused, they stay as they are. Changes nothing else, the cache included.
  * Refused: 5, 6, 9. */
-static inline uint32_t vcm_line(const vcm_state *state, const vcm_memory *memory, uint32_t line, uint8_t bytes[16]);
+VCM_MUST_CHECK static inline uint32_t vcm_line(const vcm_state *state, const vcm_memory *memory, uint32_t line, uint8_t bytes[16]);
 
 /* LINE's companion: its refusal or 0, and no bytes. */
 static inline uint32_t vcm_line_refusal(const vcm_state *state, const vcm_memory *memory, uint32_t line);
 
 /* MARK: opens the next frame, without written bits. Refused: 5, 6, 12. */
-static inline uint32_t vcm_mark(vcm_state *state, const vcm_memory *memory);
+VCM_MUST_CHECK static inline uint32_t vcm_mark(vcm_state *state, const vcm_memory *memory);
 
 /* ROLLBACK: drops the k newest frames. The restored mark is used up. Refused: 5, 6, 11. */
-static inline uint32_t vcm_rollback(vcm_state *state, const vcm_memory *memory, uint32_t k);
+VCM_MUST_CHECK static inline uint32_t vcm_rollback(vcm_state *state, const vcm_memory *memory, uint32_t k);
 
 /* ADVANCE: folds the k oldest frames into the archive, newest version of each line winning, and frees them. Refused: 5, 6, 11. */
-static inline uint32_t vcm_advance(vcm_state *state, const vcm_memory *memory, uint32_t k);
+VCM_MUST_CHECK static inline uint32_t vcm_advance(vcm_state *state, const vcm_memory *memory, uint32_t k);
 
 /* COUNTS: live frames, and pages needed. A page of a live frame is needed if a line in it was written there. Refused: 5, 6. */
 static inline vcm_counted vcm_counts(const vcm_state *state, const vcm_memory *memory);
@@ -206,6 +287,18 @@ static inline vcm_counted vcm_counts(const vcm_state *state, const vcm_memory *m
 /* CHECK: yes exactly if state and lent memory are well-formed, as all storage reached from RESET is. On storage that CHECK rejects an
  * accepted call other than RESET and CHECK ends safely and its outcome is free, and so is whether WRITE gives 13. Refused: 5, 6. */
 static inline vcm_verdict vcm_check(const vcm_state *state, const vcm_memory *memory);
+
+/* ---- Snapshots --------------------------------------------------------------------------------------------------------------------
+ *
+ * A snapshot of a store is its state and all six pieces, each up to its need, as they are between two calls: copied whole, say by memcpy
+ * the vcm_state and the first VCM_BLOCK_BYTES of a block. None of them can be left out, and nothing else is to be kept. No address is
+ * among the bytes, so that they may be put back elsewhere; numbers lie in the machine's order. The registers tell the settings.
+ *
+ * After a snapshot is put back CHECK is to be asked. If it says yes the store can be used, and where the bytes are those taken it
+ * answers as it did then. If it says no, or is refused with 5, they are not: every call is still safe there, but of what an accepted
+ * one answers nothing is promised, RESET and CHECK apart. (6: less memory is lent than this store needs.) A yes is no proof that no byte
+ * was changed, for other bytes may be a well-formed store too, another archive for one: keep a checksum where that is to be told.
+ */
 
 /* ---- What the library exports -----------------------------------------------------------------------------------------------------
  *
@@ -226,8 +319,8 @@ typedef struct vcm_step {
     uint32_t refusal;        /* 32 */
 } vcm_step;
 
-VCM_STATIC_ASSERT(sizeof(vcm_outcome) == 788, "vcm_outcome");
-VCM_STATIC_ASSERT(sizeof(vcm_step) == 36, "vcm_step");
+VCM_HAS_SIZE(vcm_outcome, 788);
+VCM_HAS_SIZE(vcm_step, 36);
 
 vcm_outcome vcm_raw_reset(vcm_state state, uint8_t *archive, size_t archive_len, const uint8_t *pool, size_t pool_len,
                           uint32_t *groups, size_t groups_len, const uint16_t *table, size_t table_len, const uint32_t *owners,
@@ -274,6 +367,75 @@ vcm_verdict vcm_raw_check(vcm_state state, const uint8_t *archive, size_t archiv
 
 /* The cache's five arrays. */
 #define VCM_CACHE_OF(s) (s)->cache.lines, (s)->cache.frames, (s)->cache.valid, (s)->cache.bytes, (s)->cache.last
+
+static inline const char *vcm_refusal_text(uint32_t refusal) {
+    switch (refusal) {
+    case VCM_OK:
+        return "accepted";
+    case 1:
+        return "the line has more than 80 bytes";
+    case 2:
+        return "the line is no record: a word and its numbers, with one tab between";
+    case 3:
+        return "the record comes before the first accepted reset: reset first";
+    case VCM_REFUSAL_SETTINGS:
+        return "L, F or P is outside its limits: L is a multiple of 8 from 8 to 4096, F a multiple of 16 from 16 to 256, P 1 to 4096";
+    case VCM_REFUSAL_STATE:
+        return "the state holds no store, its settings, CMF or OMF being outside their limits: reset it first";
+    case VCM_REFUSAL_MEMORY:
+        return "a lent piece of memory is shorter than the sizing call says: lend more, or reset with smaller settings";
+    case VCM_REFUSAL_WIDTH:
+        return "the width is not 1, 2 or 4 bytes";
+    case VCM_REFUSAL_ALIGNMENT:
+        return "the address is not a multiple of the width";
+    case VCM_REFUSAL_RANGE:
+        return "the address or the line lies past the end: there are L lines, 16 x L bytes";
+    case VCM_REFUSAL_VALUE:
+        return "the value needs more bytes than the width: write it with a greater width";
+    case VCM_REFUSAL_MARKS:
+        return "k is 0 or more than the marks there are, which are one less than the live frames: ask COUNTS";
+    case VCM_REFUSAL_FRAMES:
+        return "no frame is left: advance, or roll back";
+    case VCM_REFUSAL_PAGES:
+        return "no page is left: advance, or roll back";
+    default:
+        return "unknown";
+    }
+}
+
+static inline size_t vcm_block_bytes(uint32_t lines, uint32_t frames, uint32_t pages) {
+    vcm_need need = vcm_sizes(lines, frames, pages);
+    return need.archive + need.pool + need.groups + need.table + need.owners + need.history;
+}
+
+static inline vcm_memory vcm_parts(void *block, size_t bytes, uint32_t lines, uint32_t frames, uint32_t pages) {
+    static uint32_t nothing[1]; /* where pieces lie that have no block: aligned, and not NULL */
+    vcm_need need = vcm_sizes(lines, frames, pages);
+    uint8_t *at = (uint8_t *)block;
+    vcm_memory memory;
+    if (block == NULL || (uintptr_t)block % VCM_BLOCK_ALIGN != 0 || bytes < vcm_block_bytes(lines, frames, pages)) {
+        need.archive = need.pool = need.groups = need.table = need.owners = need.history = 0;
+        at = (uint8_t *)nothing;
+    }
+    memory.archive = at;
+    memory.archive_len = need.archive;
+    at += need.archive;
+    memory.pool = at;
+    memory.pool_len = need.pool;
+    at += need.pool;
+    memory.groups = (uint32_t *)(void *)at;
+    memory.groups_len = need.groups / sizeof *memory.groups;
+    at += need.groups;
+    memory.table = (uint16_t *)(void *)at;
+    memory.table_len = need.table / sizeof *memory.table;
+    at += need.table;
+    memory.owners = (uint32_t *)(void *)at;
+    memory.owners_len = need.owners / sizeof *memory.owners;
+    at += need.owners;
+    memory.history = (uint16_t *)(void *)at;
+    memory.history_len = need.history / sizeof *memory.history;
+    return memory;
+}
 
 static inline uint32_t vcm_reset(vcm_state *state, const vcm_memory *memory, uint32_t lines, uint32_t frames, uint32_t pages) {
     vcm_outcome r = vcm_raw_reset(*state, VCM_LENT(memory), lines, frames, pages);

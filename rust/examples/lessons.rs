@@ -1,6 +1,6 @@
 //! A timetable on trial. A room is a line of the store and an hour two bytes of it, which hold the number of the lesson placed there
 //! or 0. Lessons are placed, others are tried, and what was tried and taken back is not read again.
-use vcm::{Origin, Refusal, Store};
+use vcm::{Origin, Refusal, Settings, Store};
 
 fn place(store: &mut Store, room: u32, hour: u32, lesson: u32) -> Result<(), Refusal> {
     store.write(2, 16 * room + 2 * hour, lesson)?;
@@ -20,7 +20,11 @@ fn show(store: &mut Store, room: u32, hour: u32) -> Result<(), Refusal> {
 }
 
 fn main() -> Result<(), Refusal> {
-    let mut store = Store::new(8, 16, 4)?;
+    let mut store = Store::new(Settings {
+        lines: 8,
+        frames: 16,
+        pages: 4,
+    })?;
     place(&mut store, 1, 0, 101)?;
     place(&mut store, 1, 1, 102)?;
     place(&mut store, 2, 0, 201)?;

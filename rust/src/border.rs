@@ -3,7 +3,7 @@
 //!
 //! Nothing checks these declarations against the library. The assertions below fix the layout that both sides rely on; the suite
 //! compares every answer.
-use std::mem::{align_of, offset_of, size_of};
+use core::mem::{align_of, size_of};
 
 /// The cache: 16 sets of two ways, part of the [`State`]. The entry of a set's way is `2 * set + way`.
 ///
@@ -79,6 +79,7 @@ pub struct Need {
 
 /// The state after RESET, and its refusal or 0.
 #[repr(C)]
+#[derive(Clone, Copy)]
 pub struct Outcome {
     /// The state after the call; refused, the very state given.
     pub state: State,
@@ -88,6 +89,7 @@ pub struct Outcome {
 
 /// The registers after a call, and its refusal or 0.
 #[repr(C)]
+#[derive(Clone, Copy)]
 pub struct Step {
     /// The registers after the call; refused, the very ones given.
     pub registers: Registers,
@@ -135,49 +137,106 @@ pub struct Verdict {
 const _: () = {
     assert!(size_of::<usize>() == 8);
     assert!(size_of::<Cache>() == 752 && align_of::<Cache>() == 4);
-    assert!(offset_of!(Cache, lines) == 0);
-    assert!(offset_of!(Cache, frames) == 128);
-    assert!(offset_of!(Cache, valid) == 192);
-    assert!(offset_of!(Cache, bytes) == 224);
-    assert!(offset_of!(Cache, last) == 736);
     assert!(size_of::<Registers>() == 32 && align_of::<Registers>() == 4);
-    assert!(offset_of!(Registers, lines) == 0);
-    assert!(offset_of!(Registers, frames) == 4);
-    assert!(offset_of!(Registers, pages) == 8);
-    assert!(offset_of!(Registers, cmf) == 12);
-    assert!(offset_of!(Registers, omf) == 16);
-    assert!(offset_of!(Registers, tag) == 20);
-    assert!(offset_of!(Registers, first) == 24);
-    assert!(offset_of!(Registers, used) == 28);
     assert!(size_of::<State>() == 784 && align_of::<State>() == 4);
-    assert!(offset_of!(State, registers) == 0);
-    assert!(offset_of!(State, cache) == 32);
     assert!(size_of::<Need>() == 56 && align_of::<Need>() == 8);
-    assert!(offset_of!(Need, refusal) == 0);
-    assert!(offset_of!(Need, archive) == 8);
-    assert!(offset_of!(Need, pool) == 16);
-    assert!(offset_of!(Need, groups) == 24);
-    assert!(offset_of!(Need, table) == 32);
-    assert!(offset_of!(Need, owners) == 40);
-    assert!(offset_of!(Need, history) == 48);
     assert!(size_of::<Outcome>() == 788 && align_of::<Outcome>() == 4);
-    assert!(offset_of!(Outcome, state) == 0);
-    assert!(offset_of!(Outcome, refusal) == 784);
     assert!(size_of::<Step>() == 36 && align_of::<Step>() == 4);
-    assert!(offset_of!(Step, registers) == 0);
-    assert!(offset_of!(Step, refusal) == 32);
     assert!(size_of::<Reading>() == 16 && align_of::<Reading>() == 4);
-    assert!(offset_of!(Reading, refusal) == 0);
-    assert!(offset_of!(Reading, value) == 4);
-    assert!(offset_of!(Reading, origin) == 8);
-    assert!(offset_of!(Reading, marks_back) == 12);
     assert!(size_of::<Counted>() == 12 && align_of::<Counted>() == 4);
-    assert!(offset_of!(Counted, refusal) == 0);
-    assert!(offset_of!(Counted, live) == 4);
-    assert!(offset_of!(Counted, pages) == 8);
     assert!(size_of::<Verdict>() == 8 && align_of::<Verdict>() == 4);
-    assert!(offset_of!(Verdict, refusal) == 0);
-    assert!(offset_of!(Verdict, yes) == 4);
+};
+
+// Where each field stands: each has a value of its own, which is looked for at its offset. (`offset_of` does it in one word, and wants
+// a compiler that is younger than the oldest that the crate is for.)
+const _: () = {
+    /// The four bytes at an offset of a value, as a number.
+    #[allow(unsafe_code)]
+    const fn at<T: Copy>(value: &T, offset: usize) -> u32 {
+        assert!(offset % 4 == 0 && offset + 4 <= size_of::<T>() && align_of::<T>() >= 4);
+        let start: *const T = value;
+        // SAFETY: aligned and inside the value, by the line above. It is asked when compiling only, and the compiler turns down a gap.
+        unsafe { *start.cast::<u8>().add(offset).cast::<u32>() }
+    }
+
+    let registers = Registers {
+        lines: 1,
+        frames: 2,
+        pages: 3,
+        cmf: 4,
+        omf: 5,
+        tag: 6,
+        first: 7,
+        used: 8,
+    };
+    assert!(at(&registers, 0) == 1);
+    assert!(at(&registers, 4) == 2);
+    assert!(at(&registers, 8) == 3);
+    assert!(at(&registers, 12) == 4);
+    assert!(at(&registers, 16) == 5);
+    assert!(at(&registers, 20) == 6);
+    assert!(at(&registers, 24) == 7);
+    assert!(at(&registers, 28) == 8);
+
+    let cache = Cache {
+        lines: [0x0909_0909; 32],
+        frames: [0x0A0A; 32],
+        valid: [0x0B; 32],
+        bytes: [0x0C; 512],
+        last: [0x0D; 16],
+    };
+    assert!(at(&cache, 0) == 0x0909_0909 && at(&cache, 124) == 0x0909_0909);
+    assert!(at(&cache, 128) == 0x0A0A_0A0A && at(&cache, 188) == 0x0A0A_0A0A);
+    assert!(at(&cache, 192) == 0x0B0B_0B0B && at(&cache, 220) == 0x0B0B_0B0B);
+    assert!(at(&cache, 224) == 0x0C0C_0C0C && at(&cache, 732) == 0x0C0C_0C0C);
+    assert!(at(&cache, 736) == 0x0D0D_0D0D && at(&cache, 748) == 0x0D0D_0D0D);
+
+    let state = State { registers, cache };
+    assert!(at(&state, 0) == 1 && at(&state, 28) == 8);
+    assert!(at(&state, 32) == 0x0909_0909 && at(&state, 780) == 0x0D0D_0D0D);
+    let outcome = Outcome { state, refusal: 14 };
+    assert!(at(&outcome, 0) == 1 && at(&outcome, 784) == 14);
+    let step = Step {
+        registers,
+        refusal: 14,
+    };
+    assert!(at(&step, 0) == 1 && at(&step, 32) == 14);
+
+    let need = Need {
+        refusal: 1,
+        archive: 2,
+        pool: 3,
+        groups: 4,
+        table: 5,
+        owners: 6,
+        history: 7,
+    };
+    assert!(at(&need, 0) == 1);
+    assert!(at(&need, 8) == 2);
+    assert!(at(&need, 16) == 3);
+    assert!(at(&need, 24) == 4);
+    assert!(at(&need, 32) == 5);
+    assert!(at(&need, 40) == 6);
+    assert!(at(&need, 48) == 7);
+
+    let reading = Reading {
+        refusal: 1,
+        value: 2,
+        origin: 3,
+        marks_back: 4,
+    };
+    assert!(at(&reading, 0) == 1);
+    assert!(at(&reading, 4) == 2);
+    assert!(at(&reading, 8) == 3);
+    assert!(at(&reading, 12) == 4);
+    let counted = Counted {
+        refusal: 1,
+        live: 2,
+        pages: 3,
+    };
+    assert!(at(&counted, 0) == 1 && at(&counted, 4) == 2 && at(&counted, 8) == 3);
+    let verdict = Verdict { refusal: 1, yes: 2 };
+    assert!(at(&verdict, 0) == 1 && at(&verdict, 4) == 2);
 };
 
 extern "C" {

@@ -2,8 +2,42 @@
 //!
 //! Every call is safe on any state and on memory of any contents and any length: the library has no precondition. A call whose
 //! answer is not fixed, because the storage is not well-formed, still stays inside the memory lent. A refused call leaves state and
-//! memory untouched. Answers are the library's own numbers; [`crate::Store`] has them as Rust types.
+//! memory untouched. Answers are the library's own numbers, of which [`accepted`] makes an error; [`Store`](crate::Store) has them as
+//! Rust types.
+//!
+//! Nothing here owns memory or needs `std`: with `default-features = false` this module, [`Settings`](crate::Settings) and
+//! [`Refusal`] are what is left, without `alloc`.
+//!
+//! ```
+//! use vcm::calls::{self, accepted, Lent};
+//! use vcm::{Refusal, Settings};
+//!
+//! const SETTINGS: Settings = Settings { lines: 8, frames: 16, pages: 2 };
+//! let need = SETTINGS.need()?; // in bytes
+//! let (mut archive, mut pool) = ([0u8; 128], [0u8; 256]);
+//! let (mut groups, mut table) = ([0u32; 8], [0u16; 16]);
+//! let (mut owners, mut history) = ([0u32; 2], [0u16; 256]);
+//! assert!(need.groups == 4 * groups.len() && need.table == 2 * table.len());
+//!
+//! let mut lent = Lent {
+//!     archive: &mut archive,
+//!     pool: &mut pool,
+//!     groups: &mut groups,
+//!     table: &mut table,
+//!     owners: &mut owners,
+//!     history: &mut history,
+//! };
+//! let mut state = calls::blank();
+//! let Settings { lines, frames, pages } = SETTINGS;
+//! accepted(calls::reset(&mut state, &mut lent, lines, frames, pages))?;
+//! accepted(calls::write(&mut state, &mut lent, 4, 0, 1988))?;
+//! let reading = calls::read(&mut state, lent.shown(), 4, 0);
+//! accepted(reading.refusal)?;
+//! assert_eq!(reading.value, 1988);
+//! # Ok::<(), Refusal>(())
+//! ```
 use crate::border::{self, Counted, Need, Reading, State, Step, Verdict};
+use crate::Refusal;
 
 /// The memory lent to a call that may write it. A piece may be longer than the need; what lies past the need is not touched.
 #[derive(Debug)]
@@ -80,6 +114,18 @@ macro_rules! call {
 }
 
 // The cache's arrays are parts of a state that is borrowed for the call, exclusively where they are passed as `*mut`.
+
+/// Nothing for 0, and for any other number its refusal as an error.
+///
+/// # Errors
+/// The refusal of a number other than 0.
+#[inline]
+pub fn accepted(number: u32) -> Result<(), Refusal> {
+    match number {
+        0 => Ok(()),
+        other => Err(Refusal::from_number(other)),
+    }
+}
 
 /// The sizing call: the need of each piece in bytes, or refusal 4.
 #[must_use]

@@ -1,11 +1,28 @@
 //! Why a call is turned down.
-use std::error::Error;
-use std::fmt;
+use core::fmt;
 
 /// Why a call was turned down. A refused call changes nothing.
 ///
-/// Where several reasons hold, the one with the lowest number is given.
-#[derive(Clone, Copy, Debug, PartialEq, Eq, Hash)]
+/// Where several reasons hold, the one with the lowest number is given. Both ways to print it say its number, the reason and what would
+/// help; `{:?}`, which is what a `main` that returns it prints, has its name as well.
+///
+/// ```
+/// use vcm::Refusal;
+///
+/// let refusal = Refusal::Pages;
+/// assert_eq!(refusal.number(), 13);
+/// assert_eq!(refusal.to_string(), "13: no page is left: advance, or roll back");
+/// assert_eq!(format!("{refusal:?}"), "Pages (13: no page is left: advance, or roll back)");
+/// ```
+///
+/// ```should_panic
+/// # use vcm::{Refusal, Settings};
+/// fn main() -> Result<(), Refusal> {
+///     Settings { lines: 7, frames: 16, pages: 1 }.need()?; // Error: Settings (4: ..)
+///     Ok(())
+/// }
+/// ```
+#[derive(Clone, Copy, PartialEq, Eq, Hash)]
 #[non_exhaustive]
 pub enum Refusal {
     /// 4: L, F or P is outside its limits. L is a multiple of 8 from 8 to 4,096, F a multiple of 16 from 16 to 256, P 1 to 4,096.
@@ -69,33 +86,54 @@ impl Refusal {
             Refusal::Unknown(number) => number,
         }
     }
+
+    /// The reason and what would help, without the number: the words of C's `vcm_refusal_text`.
+    #[must_use]
+    pub fn words(self) -> &'static str {
+        match self {
+            Refusal::Settings => "L, F or P is outside its limits: L is a multiple of 8 from 8 to 4096, F a multiple of 16 from 16 to 256, P 1 to 4096",
+            Refusal::State => "the state holds no store, its settings, CMF or OMF being outside their limits: reset it first",
+            Refusal::Memory => "a lent piece of memory is shorter than the sizing call says: lend more, or reset with smaller settings",
+            Refusal::Width => "the width is not 1, 2 or 4 bytes",
+            Refusal::Alignment => "the address is not a multiple of the width",
+            Refusal::Range => "the address or the line lies past the end: there are L lines, 16 x L bytes",
+            Refusal::Value => "the value needs more bytes than the width: write it with a greater width",
+            Refusal::Marks => "k is 0, or more than there are marks: one less than the live frames, which COUNTS tells",
+            Refusal::Frames => "no frame is left: advance, or roll back",
+            Refusal::Pages => "no page is left: advance, or roll back",
+            Refusal::Unknown(_) => "a number that this crate does not know: link the library that it came with",
+        }
+    }
+
+    fn name(self) -> &'static str {
+        match self {
+            Refusal::Settings => "Settings",
+            Refusal::State => "State",
+            Refusal::Memory => "Memory",
+            Refusal::Width => "Width",
+            Refusal::Alignment => "Alignment",
+            Refusal::Range => "Range",
+            Refusal::Value => "Value",
+            Refusal::Marks => "Marks",
+            Refusal::Frames => "Frames",
+            Refusal::Pages => "Pages",
+            Refusal::Unknown(_) => "Unknown",
+        }
+    }
 }
 
 impl fmt::Display for Refusal {
     fn fmt(&self, f: &mut fmt::Formatter<'_>) -> fmt::Result {
-        let words = match self {
-            Refusal::Settings => "L, F or P is outside its limits",
-            Refusal::State => {
-                "the state holds settings outside their limits, or a CMF or OMF outside 0 to F - 1"
-            }
-            Refusal::Memory => "a lent memory is shorter than the sizing call says",
-            Refusal::Width => "the width is not 1, 2 or 4",
-            Refusal::Alignment => "the address is not a multiple of the width",
-            Refusal::Range => {
-                "the address plus the width passes 16 * L, or the line number is not below L"
-            }
-            Refusal::Value => "the value needs more bytes than the width",
-            Refusal::Marks => "k is 0 or more than the marked states",
-            Refusal::Frames => "all F frames are live",
-            Refusal::Pages => {
-                "the page in the current frame is not needed yet and P pages are needed already"
-            }
-            Refusal::Unknown(number) => {
-                return write!(f, "the library answered with the unknown number {number}")
-            }
-        };
-        f.write_str(words)
+        write!(f, "{}: {}", self.number(), self.words())
     }
 }
 
-impl Error for Refusal {}
+// By hand, since this is what a program shows whose `main` returns the refusal.
+impl fmt::Debug for Refusal {
+    fn fmt(&self, f: &mut fmt::Formatter<'_>) -> fmt::Result {
+        write!(f, "{} ({self})", self.name())
+    }
+}
+
+#[cfg(feature = "std")]
+impl std::error::Error for Refusal {}

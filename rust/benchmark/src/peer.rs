@@ -60,7 +60,12 @@ impl Peer for vcm::Store {
     const NAME: &'static str = "ours";
 
     fn new(settings: Settings) -> Self {
-        vcm::Store::new(settings.lines, settings.frames, settings.pages).expect("good settings")
+        let settings = vcm::Settings {
+            lines: settings.lines,
+            frames: settings.frames,
+            pages: settings.pages,
+        };
+        vcm::Store::new(settings).expect("good settings")
     }
 
     #[inline]

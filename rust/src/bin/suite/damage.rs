@@ -257,7 +257,7 @@ impl Stored {
             }
             6 => {
                 let entry = rng.place(32);
-                let line = self.state.registers.lines.next_multiple_of(16) + (entry / 2) as u32;
+                let line = (self.state.registers.lines + 15) / 16 * 16 + (entry / 2) as u32;
                 let line = line + 16 * rng.below(3);
                 self.fill_entry(entry, rng.pick(&[line, u32::MAX - 15 + (entry / 2) as u32]));
             }
@@ -291,8 +291,9 @@ impl Stored {
         let groups = self.memory.groups.get();
         let first = rng.place(groups.len());
         let mut places = (0..groups.len()).map(|n| (first + n) % groups.len());
-        let Some(at) = places.find(|at| groups[*at] & 0xFFFF != 0) else {
-            return;
+        let at = match places.find(|at| groups[*at] & 0xFFFF != 0) {
+            Some(at) => at,
+            None => return,
         };
         if self.state.registers.tag < 255 {
             let group = groups[at];

@@ -14,9 +14,9 @@ impl Settings {
     /// "L is a multiple of 8 from 8 to 4,096. F is a multiple of 16 from 16 to 256 .. P is 1 to 4,096."
     pub fn within(self) -> bool {
         (8..=4096).contains(&self.lines)
-            && self.lines.is_multiple_of(8)
+            && self.lines % 8 == 0
             && (16..=256).contains(&self.frames)
-            && self.frames.is_multiple_of(16)
+            && self.frames % 16 == 0
             && (1..=4096).contains(&self.pages)
     }
 }
@@ -62,7 +62,7 @@ pub fn refusal(facts: Facts, call: Call) -> u32 {
     let place = |width: u32, address: u32| {
         if !matches!(width, 1 | 2 | 4) {
             7
-        } else if !address.is_multiple_of(width) {
+        } else if address % width != 0 {
             8
         } else if u64::from(address) + u64::from(width) > size {
             9
@@ -270,11 +270,10 @@ impl Plain {
             Call::Rollback(k) => {
                 for set in 0..16 {
                     for way in 0..2 {
-                        let Some(line) = self.sets[set].ways[way] else {
-                            continue;
-                        };
+                        let line = self.sets[set].ways[way];
+                        let back = line.and_then(|line| self.marks_back(line as usize));
                         // "its line's most recent version lay in a dropped frame"
-                        if self.marks_back(line as usize).is_some_and(|back| back < k) {
+                        if matches!(back, Some(back) if back < k) {
                             self.sets[set].ways[way] = None;
                         }
                     }

@@ -118,7 +118,8 @@ pub fn ring_on_any(before: &Stored, after: &Stored, call: Call) -> Result<(), St
             let indexes = storage.indexes();
             let kept = storage.live() - k;
             let below = indexes.iter().filter(|index| **index < kept).count();
-            let is_exact = !indexes.is_sorted() || used as usize == below;
+            let is_sorted = indexes.windows(2).all(|pair| pair[0] <= pair[1]);
+            let is_exact = !is_sorted || used as usize == below;
             first == old && used as usize <= indexes.len() && is_exact
         }
         _ => ring_of(before) == ring_of(after),
@@ -139,8 +140,9 @@ pub fn ring_on_well(before: &Stored, after: &Stored, call: Call) -> Result<(), S
         let after = ring_of(after);
         return Err(format!("first and used are {after:?}, not {expected:?}"));
     }
-    let Call::Write { address, .. } = call else {
-        return Ok(());
+    let address = match call {
+        Call::Write { address, .. } => address,
+        _ => return Ok(()),
     };
     let owner = owner_of(before.state.registers.cmf, address / 128);
     let entry = storage.table_entry(owner);

@@ -63,8 +63,9 @@ impl Stored {
 
     /// R2: one page more, of a place that is not needed.
     fn page_not_needed(&mut self, mut pages: Vec<Page>, rng: &Rng) {
-        let Some((index, block)) = self.place_not_needed(rng) else {
-            return;
+        let (index, block) = match self.place_not_needed(rng) {
+            Some(place) => place,
+            None => return,
         };
         if pages.len() as u32 == self.state.registers.pages {
             return;

@@ -105,7 +105,7 @@ impl Script {
     fn line(&self, rng: &Rng, lines: u32) -> u32 {
         match self.lines {
             Lines::Set(set) if set < lines => {
-                let in_set = (lines - set).div_ceil(16);
+                let in_set = (lines - set + 15) / 16;
                 set + 16 * rng.below(in_set)
             }
             Lines::Block(block) if 8 * block < lines => 8 * block + rng.below(8),

@@ -1,4 +1,5 @@
-//! The wrapper `Store` side by side with the plain store: the same answers as Rust types.
+//! The wrapper `Store` side by side with the plain store: the same answers as Rust types. Between calls it is saved and loaded again, and
+//! has trials, inside each other, some of which are kept.
 use crate::call::{Answer, Call, Origin};
 use crate::memory::Lengths;
 use crate::plain::{Plain, Settings};
@@ -6,7 +7,7 @@ use crate::rng::Rng;
 use crate::script::{bad_settings, Script};
 use crate::spot;
 use crate::tally::Tally;
-use vcm::{Refusal, Store};
+use vcm::{Counts, Reading, Refusal, Store, Trial};
 
 fn number<T>(answer: &Result<T, Refusal>) -> u32 {
     match answer {
@@ -15,56 +16,90 @@ fn number<T>(answer: &Result<T, Refusal>) -> u32 {
     }
 }
 
-fn ask(store: &mut Store, call: Call) -> Answer {
-    let outcome = |answer: Result<(), Refusal>| Answer::Outcome {
+fn outcome(answer: Result<(), Refusal>) -> Answer {
+    Answer::Outcome {
         refusal: number(&answer),
-    };
+    }
+}
+
+fn read(call: Call, answer: Result<Reading, Refusal>) -> Answer {
+    match answer {
+        Ok(reading) => Answer::Reading {
+            refusal: 0,
+            value: reading.value,
+            origin: match reading.origin {
+                vcm::Origin::Archive => Origin::Archive,
+                vcm::Origin::Frame(back) => Origin::Frame(back),
+                vcm::Origin::Cache => Origin::Cache,
+            },
+        },
+        Err(refusal) => Answer::refused(call, refusal.number()),
+    }
+}
+
+fn lent(call: Call, answer: Result<[u8; 16], Refusal>) -> Answer {
+    match answer {
+        Ok(bytes) => Answer::Lending { refusal: 0, bytes },
+        Err(refusal) => Answer::refused(call, refusal.number()),
+    }
+}
+
+fn counted(call: Call, answer: Result<Counts, Refusal>) -> Answer {
+    match answer {
+        Ok(counts) => Answer::Counting {
+            refusal: 0,
+            live: counts.live,
+            pages: counts.pages,
+        },
+        Err(refusal) => Answer::refused(call, refusal.number()),
+    }
+}
+
+fn ask(store: &mut Store, call: Call) -> Answer {
     match call {
         Call::Reset {
             lines,
             frames,
             pages,
-        } => outcome(store.reset(lines, frames, pages)),
+        } => outcome(store.reset(vcm::Settings {
+            lines,
+            frames,
+            pages,
+        })),
         Call::Write {
             width,
             address,
             value,
         } => outcome(store.write(width, address, value)),
-        Call::Read { width, address } => match store.read(width, address) {
-            Ok(reading) => Answer::Reading {
-                refusal: 0,
-                value: reading.value,
-                origin: match reading.origin {
-                    vcm::Origin::Archive => Origin::Archive,
-                    vcm::Origin::Frame(back) => Origin::Frame(back),
-                    vcm::Origin::Cache => Origin::Cache,
-                },
-            },
-            Err(refusal) => Answer::refused(call, refusal.number()),
-        },
-        Call::Line(line) => match store.line(line) {
-            Ok(bytes) => Answer::Lending { refusal: 0, bytes },
-            Err(refusal) => Answer::refused(call, refusal.number()),
-        },
+        Call::Read { width, address } => read(call, store.read(width, address)),
+        Call::Line(line) => lent(call, store.line(line)),
         Call::LineRefusal(line) => Answer::Outcome {
             refusal: number(&store.line(line)),
         },
         Call::Mark => outcome(store.mark()),
         Call::Rollback(k) => outcome(store.rollback(k)),
         Call::Advance(k) => outcome(store.advance(k)),
-        Call::Counts => match store.counts() {
-            Ok(counts) => Answer::Counting {
-                refusal: 0,
-                live: counts.live,
-                pages: counts.pages,
-            },
-            Err(refusal) => Answer::refused(call, refusal.number()),
-        },
+        Call::Counts => counted(call, store.counts()),
         Call::Check => match store.check() {
             Ok(yes) => Answer::Verdict { refusal: 0, yes },
             Err(refusal) => Answer::refused(call, refusal.number()),
         },
     }
+}
+
+/// The calls that a trial lends; the others are none of its own.
+fn ask_trial(trial: &mut Trial, call: Call) -> Option<Answer> {
+    Some(match call {
+        Call::Write {
+            width,
+            address,
+            value,
+        } => outcome(trial.write(width, address, value)),
+        Call::Read { width, address } => read(call, trial.read(width, address)),
+        Call::Line(line) => lent(call, trial.line(line)),
+        Call::Counts => counted(call, trial.counts()),
+        _ => return None,
+    })
 }
 
 /// Memory that is always long enough: the wrapper has its own.
@@ -76,6 +111,66 @@ const ENOUGH: Lengths = Lengths {
     owners: usize::MAX,
     history: usize::MAX,
 };
+
+/// What a run of trials needs besides the trial.
+struct Beside<'a> {
+    plain: &'a mut Plain,
+    script: &'a mut Script,
+    rng: &'a Rng,
+    tally: &'a mut Tally,
+}
+
+impl Beside<'_> {
+    fn compare(&mut self, call: Call, given: Answer) -> Result<(), String> {
+        self.tally.count(call, &given);
+        let expected = self.plain.answer(call, ENOUGH);
+        if given == expected {
+            return Ok(());
+        }
+        Err(format!(
+            "{call:?} answers {given:?}, the plain store {expected:?}"
+        ))
+    }
+
+    /// A trial with calls and trials inside, which then is kept or dropped. The plain store marks for it and, where it is dropped, goes
+    /// back to as many live frames as it had.
+    fn tries(&mut self, opened: Result<Trial, Refusal>, depth: u32) -> Result<(), String> {
+        let before = self.plain.live();
+        self.compare(
+            Call::Mark,
+            Answer::Outcome {
+                refusal: number(&opened),
+            },
+        )?;
+        let mut trial = match opened {
+            Ok(trial) => trial,
+            Err(_) => return Ok(()),
+        };
+        for _ in 0..self.rng.below(12) {
+            if depth > 0 && self.rng.one_in(4) {
+                self.tries(trial.trial(), depth - 1)?;
+            }
+            let call = match self.rng.below(8) {
+                0 => Call::Counts,
+                _ => {
+                    let (settings, live) = (self.plain.settings, self.plain.live());
+                    self.script.next(self.rng, settings, live)
+                }
+            };
+            if let Some(given) = ask_trial(&mut trial, call) {
+                self.compare(call, given)?;
+            }
+        }
+        if self.rng.one_in(2) {
+            trial.keep();
+        } else {
+            drop(trial);
+            let back = Call::Rollback(self.plain.live() - before);
+            self.compare(back, Answer::Outcome { refusal: 0 })?;
+        }
+        Ok(())
+    }
+}
 
 pub fn run(steps: u32) -> Result<Tally, String> {
     let seed = 0x570_4E00;
@@ -90,9 +185,29 @@ pub fn run(steps: u32) -> Result<Tally, String> {
     };
     let first = small(&rng);
     let mut plain = Plain::new(first);
-    let mut store = Store::new(first.lines, first.frames, first.pages)
-        .map_err(|refusal| format!("wrapper: {refusal}"))?;
+    let mut store = Store::new(vcm::Settings {
+        lines: first.lines,
+        frames: first.frames,
+        pages: first.pages,
+    })
+    .map_err(|refusal| format!("wrapper: {refusal}"))?;
     for step in 0..steps {
+        if rng.one_in(1000) {
+            let bytes = store.save();
+            store = Store::load(&bytes)
+                .map_err(|error| format!("wrapper, seed {seed:#x}, step {step}: {error}"))?;
+        }
+        if rng.one_in(200) {
+            let mut beside = Beside {
+                plain: &mut plain,
+                script: &mut script,
+                rng: &rng,
+                tally: &mut tally,
+            };
+            beside
+                .tries(store.trial(), 3)
+                .map_err(|words| format!("trial, seed {seed:#x}, step {step}: {words}"))?;
+        }
         let mut call = script.next(&rng, plain.settings, plain.live());
         let asked = match rng.below(6000) {
             0 => Some(small(&rng)),

@@ -44,7 +44,8 @@ pub enum Refusal {
     Marks,
     /// 12: MARK finds all F frames live. ADVANCE or ROLLBACK frees some.
     Frames,
-    /// 13: WRITE's page in the current frame is not needed yet and P pages are needed already. ADVANCE or ROLLBACK may free some.
+    /// 13: WRITE's page in the current frame is not needed yet and P pages are needed already. ADVANCE or ROLLBACK may free some; where a
+    /// single frame is live, MARK comes first.
     Pages,
     /// A number that this crate does not know: the library linked is not the one that the crate was written for.
     Unknown(u32),
@@ -98,7 +99,7 @@ impl Refusal {
             Refusal::Alignment => "the address is not a multiple of the width",
             Refusal::Range => "the address or the line lies past the end: there are L lines, 16 x L bytes",
             Refusal::Value => "the value needs more bytes than the width: write it with a greater width",
-            Refusal::Marks => "k is 0, or more than there are marks: one less than the live frames, which COUNTS tells",
+            Refusal::Marks => "k is 0 or more than the marks there are, which are one less than the live frames: ask COUNTS",
             Refusal::Frames => "no frame is left: advance, or roll back",
             Refusal::Pages => "no page is left: advance, or roll back",
             Refusal::Unknown(_) => "a number that this crate does not know: link the library that it came with",

@@ -192,7 +192,7 @@ pub fn run(steps: u32) -> Result<Tally, String> {
     })
     .map_err(|refusal| format!("wrapper: {refusal}"))?;
     for step in 0..steps {
-        if rng.one_in(1000) {
+        if rng.one_in(100) {
             let bytes = store.save();
             store = Store::load(&bytes)
                 .map_err(|error| format!("wrapper, seed {seed:#x}, step {step}: {error}"))?;

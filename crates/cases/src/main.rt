@@ -2,12 +2,13 @@
 mod subject;
 mod tally;
 
+use choices::asked;
+use choices::asked::Asked;
 use choices::choice;
 use choices::choice::Run;
 use choices::rows;
 use choices::rows::Row;
 use copies::Answer;
-use copies::Call;
 use copies::Plain;
 use libc::STDIN_FILENO;
 use libc::STDOUT_FILENO;
@@ -25,7 +26,7 @@ struct Game {
 
 // A call, and where the rows and the run are behind it.
 struct Turn {
-    call: Call,
+    asked: Asked,
     run: Run,
 }
 
@@ -41,6 +42,7 @@ fn start() -> Game {
             every: 0,
             seed: 0,
             place: 0,
+            lent: asked::WHOLE,
         },
         kind: rows::TITLE,
         tally: tally::empty(),
@@ -55,27 +57,26 @@ fn print_row(script: &[u8], at: usize, next: usize) {
     }
 }
 
-// A row that is no start of a run is a call.
-fn row_turn(row: Row, run: Run) -> Turn {
+// A row that is no start of a run is a call, or says which piece is short from here on.
+fn row_turn(script: &[u8], row: Row, run: Run) -> Turn {
     let fields = row.fields;
-    let call = rows::call_of(row);
     let mut after = run;
     after.place = row.next;
-    if row.kind != rows::BEGIN {
-        return Turn { call, run: after };
+    if row.kind == rows::SHORT {
+        after.lent = rows::lent_at(script, run.place);
     }
-    let mut reset = call;
-    reset.kind = copies::RESET;
+    if row.kind != rows::BEGIN {
+        let asked = rows::call_of(row, run.lent);
+        return Turn { asked, run: after };
+    }
     after.lines = fields[1];
     after.frames = fields[2];
     after.pages = fields[3];
     after.left = fields[4];
     after.every = fields[5];
     after.seed = fields[6];
-    Turn {
-        call: reset,
-        run: after,
-    }
+    let asked = asked::call(copies::RESET, fields[1], fields[2], fields[3], run.lent);
+    Turn { asked, run: after }
 }
 
 // The next call, of the run or of the rows, by the numbers of the plain store.
@@ -85,7 +86,7 @@ fn next(run: Run, script: &[u8], lines: usize, frames: usize, live: usize) -> Tu
         after.left = run.left - 1;
         after.seed = choice::next(run.seed);
         return Turn {
-            call: choice::chosen(run, lines, frames, live),
+            asked: choice::chosen(run, lines, frames, live),
             run: after,
         };
     }
@@ -93,7 +94,7 @@ fn next(run: Run, script: &[u8], lines: usize, frames: usize, live: usize) -> Tu
     if row.kind != rows::END {
         print_row(script, run.place, row.next);
     }
-    row_turn(row, run)
+    row_turn(script, row, run)
 }
 
 // What is printed behind a call: the answer to a row, the differences behind a run.
@@ -128,10 +129,22 @@ fn step(
     let run = game.run;
     let tally = game.tally;
     let turn = next(run, script, plain.lines, plain.frames, plain.live);
-    let call = turn.call;
+    let asked = turn.asked;
+    let call = asked.call;
     let after = turn.run;
-    let told = subject::call(state, archive, pool, groups, table, owners, history, call);
-    let reply = copies::step(memory, plain, call);
+    let made = subject::call(
+        state,
+        archive,
+        pool,
+        groups,
+        table,
+        owners,
+        history,
+        asked,
+        plain,
+    );
+    let told = made.told;
+    let reply = copies::step(memory, plain, call, made.lent);
     let answer = told.answer;
     let expected = reply.answer;
     let state_after = told.state;

@@ -1,6 +1,10 @@
-// The store under test: the memory and the state are lent as the call says, the call is made, and its answer is written down.
+// The store under test: the memory and the state are lent as asked for, the call is made, and its answer is written down.
+use choices::asked;
+use choices::asked::Asked;
 use copies::Answer;
 use copies::Call;
+use copies::Lengths;
+use copies::Plain;
 use store::Origin;
 use store::Outcome;
 use store::State;
@@ -10,6 +14,12 @@ ghost use Prim.Native.Nat.{_≤_};
 pub struct Told {
     pub state: State,
     pub answer: Answer,
+}
+
+// A call that was made, and how much of each piece was lent to it.
+pub struct Played {
+    pub told: Told,
+    pub lent: Lengths,
 }
 
 // An answer with these numbers.
@@ -219,30 +229,48 @@ fn made(
     outcome(turn(state, archive, pool, groups, table, owners, history, call))
 }
 
-// How many elements of a piece are lent: all, or one fewer than needed.
-fn part(have: usize, need: usize, short: bool) -> usize
+// So many elements of a piece, or all where it has no more.
+fn part(have: usize, want: usize) -> usize
     ensures { λ r. ⌜ r ≤ have ⌝ }
 {
-    if short {
-        if need <= have {
-            if 0 < need {
-                return need - 1;
-            }
-        }
+    if want <= have {
+        return want;
     }
     have
 }
 
-// What the archive needs: RESET's by the settings asked for, every other call's by those of the store. The history always has 256 places.
-fn archive_need(state: State, call: Call) -> usize {
-    let mut lines = state.registers.lines;
-    if call.kind == copies::RESET {
-        lines = call.a;
+// So much of each piece, as far as there is so much.
+fn fitting(have: Lengths, want: Lengths) -> Lengths
+    ensures { λ r. ⌜ (r .archive ≤ have .archive) × (r .pool ≤ have .pool) × (r .groups ≤ have .groups) × (r .table ≤ have .table) × (r .owners ≤ have .owners) × (r .history ≤ have .history) ⌝ }
+{
+    Lengths {
+        archive: part(have.archive, want.archive),
+        pool: part(have.pool, want.pool),
+        groups: part(have.groups, want.groups),
+        table: part(have.table, want.table),
+        owners: part(have.owners, want.owners),
+        history: part(have.history, want.history),
     }
-    (lines % 65536 * 16) as usize
 }
 
-// A call on the store, with the memory and the state lent as the call says. Made on the blank state, it leaves the store's as it was.
+// The state that a call is made on.
+fn given(state: State, call: Call) -> State {
+    if call.blank {
+        return store::blank();
+    }
+    state
+}
+
+// Made on the blank state, a refused call leaves the store's as it was.
+fn kept(state: State, call: Call, told: Told) -> Told {
+    let mut after = told;
+    if call.blank && told.answer.refusal != 0 {
+        after.state = state;
+    }
+    after
+}
+
+// A call on the store, with so much of each piece lent as is asked for by the plain store's settings.
 pub fn call(
     state: State,
     archive: &mut [u8],
@@ -251,26 +279,37 @@ pub fn call(
     table: &mut [u16],
     owners: &mut [u32],
     history: &mut [u16],
-    call: Call,
-) -> Told {
-    let a = part(archive.len(), archive_need(state, call), call.lent == 1);
-    let h = part(history.len(), 256, call.lent == 2);
-    let mut given = state;
-    if call.lent == 3 {
-        given = store::blank();
-    }
-    let mut told = made(
-        given,
+    asked: Asked,
+    plain: Plain,
+) -> Played {
+    let call = asked.call;
+    let have = Lengths {
+        archive: archive.len(),
+        pool: pool.len(),
+        groups: groups.len(),
+        table: table.len(),
+        owners: owners.len(),
+        history: history.len(),
+    };
+    let lent = fitting(have, asked::lengths(asked, plain));
+    let a = lent.archive;
+    let p = lent.pool;
+    let g = lent.groups;
+    let t = lent.table;
+    let o = lent.owners;
+    let h = lent.history;
+    let told = made(
+        given(state, call),
         &mut archive[0..a],
-        pool,
-        groups,
-        table,
-        owners,
+        &mut pool[0..p],
+        &mut groups[0..g],
+        &mut table[0..t],
+        &mut owners[0..o],
         &mut history[0..h],
         call,
     );
-    if call.lent == 3 && told.answer.refusal != 0 {
-        told.state = state;
+    Played {
+        told: kept(state, call, told),
+        lent,
     }
-    told
 }

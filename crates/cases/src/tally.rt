@@ -93,7 +93,30 @@ fn is_same(a: Answer, b: Answer) -> bool {
     a.second == b.second && a.third == b.third
 }
 
-// A call is counted, and its two answers are compared. A difference is counted, and printed if it is one of the first: kind and arguments of the call, and what the store and the plain store say.
+// The word of a call, filled up to 8 bytes.
+fn print_word(words: &[u8], kind: u32) {
+    let at = (kind % 16 * 8) as usize;
+    let end = at + 8;
+    if end <= words.len() {
+        write_all(STDOUT_FILENO, &words[at..end]);
+    }
+}
+
+// A call with its arguments, and what the store and the plain store say.
+fn print_difference(call: Call, store: Answer, plain: Answer) {
+    write_all(STDOUT_FILENO, b"\n  difference: ");
+    print_word(
+        b"reset   write   read    line    mark    back    advance counts  check   ",
+        call.kind,
+    );
+    say(b"", call.a as usize);
+    say(b" ", call.b as usize);
+    say(b" ", call.c as usize);
+    print_answer(b": store ", store);
+    print_answer(b", plain ", plain);
+}
+
+// A call is counted, and its two answers are compared. A difference is counted, and printed if it is one of the first.
 pub fn judged(tally: Tally, call: Call, deed: usize, store: Answer, plain: Answer) -> Tally {
     if call.kind > copies::CHECK {
         return tally;
@@ -103,12 +126,7 @@ pub fn judged(tally: Tally, call: Call, deed: usize, store: Answer, plain: Answe
         return after;
     }
     if after.n[27] < 6 {
-        say(b"\n  difference: kind ", call.kind as usize);
-        say(b", ", call.a as usize);
-        say(b" ", call.b as usize);
-        say(b" ", call.c as usize);
-        print_answer(b": store ", store);
-        print_answer(b", plain ", plain);
+        print_difference(call, store, plain);
     }
     count(after, DIFFERENCES)
 }

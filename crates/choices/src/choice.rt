@@ -1,10 +1,12 @@
 // The pseudo-random choice of calls: the bits of one number are cut into fields for each.
-use crate::rows::narrow;
-use copies::Call;
+use crate::asked;
+use crate::asked::Asked;
+use crate::asked::call;
 use std::num::wrapping_add_usize;
 use std::num::wrapping_sub_usize;
 
-// A run: settings, how many calls are left, every how many COUNTS and CHECK are asked, the seed, and the place in the rows.
+// A run: settings, how many calls are left, every how many COUNTS and CHECK are asked, the seed; and of the rows the place and how the memory
+// is lent to them.
 pub struct Run {
     pub lines: usize,
     pub frames: usize,
@@ -13,6 +15,7 @@ pub struct Run {
     pub every: usize,
     pub seed: usize,
     pub place: usize,
+    pub lent: u32,
 }
 
 // The next seed.
@@ -172,19 +175,9 @@ fn count(seed: usize, phase: usize, live: usize) -> usize {
     }
 }
 
-pub fn call(kind: u32, a: usize, b: usize, c: usize, lent: u32) -> Call {
-    Call {
-        kind,
-        a: narrow(a),
-        b: narrow(b),
-        c: narrow(c),
-        lent,
-    }
-}
-
 // A RESET: now and then with the settings of the run or with others, else with such as are outside the limits or with too little lent. Few
 // are accepted, so that the tags run out in between.
-fn reset(seed: usize, run: Run, lent: u32) -> Call {
+fn reset(seed: usize, run: Run, lent: u32) -> Asked {
     let l = (seed >> 16) % 12 * 8 + 8;
     let f = (seed >> 24) % 5 * 16 + 16;
     let p = (seed >> 32) % 60 + 1;
@@ -203,17 +196,26 @@ fn reset(seed: usize, run: Run, lent: u32) -> Call {
         11 => call(0, l, f, 4294967295, lent),
         12 => call(0, l, f, p, 1),
         13 => call(0, l, f, p, 2),
+        14 => call(0, l, f, p, 3),
+        15 => call(0, l, f, p, 4),
+        16 => call(0, l, f, p, 5),
+        17 => call(0, l, f, p, 6),
         _ => call(0, 0, f, p, lent),
     }
 }
 
-// How state and memory are lent: mostly as needed.
+// How state and memory are lent: now and then with a piece short or on the blank state, a quarter of the calls with just what they need.
 fn lent(n: usize) -> u32 {
     match n {
         0 => 1,
         1 => 2,
         2 => 3,
-        _ => 0,
+        3 => 4,
+        4 => 5,
+        5 => 6,
+        6 | 7 => asked::BLANK,
+        8..=71 => 0,
+        _ => asked::WHOLE,
     }
 }
 
@@ -230,9 +232,9 @@ fn is_full(lines: usize, frames: usize, live: usize) -> bool {
 
 // The next call of a run on a store with these numbers. Where `every` is 3, COUNTS and CHECK are asked after every other call; they look
 // at each line of each frame, so that larger runs ask them every so many calls.
-pub fn chosen(run: Run, lines: usize, frames: usize, live: usize) -> Call {
+pub fn chosen(run: Run, lines: usize, frames: usize, live: usize) -> Asked {
     let seed = run.seed;
-    let lent = lent((seed >> 50) % 128);
+    let lent = lent((seed >> 50) % 256);
     let turn = rest(run.left, run.every);
     if turn == 2 {
         return call(copies::COUNTS, 0, 0, 0, 0);

@@ -1,13 +1,17 @@
 // The rows of the input: a word and up to six numbers.
-use copies::Call;
+use crate::asked;
+use crate::asked::Asked;
+use crate::asked::narrow;
 use std::num::wrapping_add_usize;
 
-// No calls: a title, the start of a run, the end.
+// No calls: a title, the start of a run, which piece is short from here on, the end.
 pub const TITLE: u32 = 9;
 
 pub const BEGIN: u32 = 10;
 
-pub const END: u32 = 11;
+pub const SHORT: u32 = 11;
+
+pub const END: u32 = 12;
 
 // A row as far as it is read; `next` is behind it.
 pub struct Row {
@@ -17,29 +21,63 @@ pub struct Row {
     pub next: usize,
 }
 
-// The kind of call that a word means, by its third letter; the end where there is none.
-fn kind_of(letter: u8) -> u32 {
-    match letter {
-        b's' => copies::RESET,
-        b'i' => copies::WRITE,
-        b'a' => copies::READ,
-        b'n' => copies::LINE,
-        b'r' => copies::MARK,
-        b'c' => copies::ROLLBACK,
-        b'v' => copies::ADVANCE,
-        b'u' => copies::COUNTS,
-        b'e' => copies::CHECK,
-        b't' => TITLE,
-        b'g' => BEGIN,
-        _ => END,
-    }
-}
-
 fn get(script: &[u8], at: usize) -> u8 {
     if at < script.len() {
         return script[at];
     }
     0
+}
+
+// A byte of a word's text: what ends a row is a space behind its word.
+fn letter_at(script: &[u8], at: usize) -> u8 {
+    let letter = get(script, at);
+    if letter == b'\n' {
+        return b' ';
+    }
+    letter
+}
+
+// Whether the whole word at a place is the one that starts at another place of the words, with a space behind it.
+fn is_word(script: &[u8], at: usize, words: &[u8], from: usize) -> bool {
+    for i in 0..8usize {
+        let letter = letter_at(script, wrapping_add_usize(at, i));
+        if letter != get(words, wrapping_add_usize(from, i)) {
+            return false;
+        }
+        if letter == b' ' {
+            return true;
+        }
+    }
+    false
+}
+
+// Which of the words, of 8 bytes each, stands at a place; how many they are if none does.
+fn word_at(script: &[u8], at: usize, words: &[u8]) -> u32 {
+    let count = words.len() / 8;
+    for i in 0..count {
+        if is_word(script, at, words, i * 8) {
+            return narrow(i);
+        }
+    }
+    narrow(count)
+}
+
+// The kind of a row by its word, in the order of the kinds; the end where there is none.
+fn kind_at(script: &[u8], at: usize) -> u32 {
+    word_at(
+        script,
+        at,
+        b"reset   write   read    line    mark    back    advance counts  check   title   begin   short   ",
+    )
+}
+
+// How the memory is lent by the row at a place, behind whose word the piece is named that is short.
+pub fn lent_at(script: &[u8], at: usize) -> u32 {
+    word_at(
+        script,
+        wrapping_add_usize(at, 6),
+        b"nothing archive pool    groups  table   owners  history ",
+    )
 }
 
 fn digit(letter: u8) -> usize {
@@ -73,7 +111,7 @@ fn with_byte(row: Row, letter: u8) -> Row {
 pub fn row_at(script: &[u8], at: usize) -> Row {
     let fields = [0usize; 8];
     let mut row = Row {
-        kind: kind_of(get(script, wrapping_add_usize(at, 2))),
+        kind: kind_at(script, at),
         fields,
         field: 0,
         next: at,
@@ -88,19 +126,8 @@ pub fn row_at(script: &[u8], at: usize) -> Row {
     row
 }
 
-// A number as an argument.
-pub fn narrow(n: usize) -> u32 {
-    (n % 4294967296) as u32
-}
-
-// The call of a row.
-pub fn call_of(row: Row) -> Call {
+// The call of a row, with the memory lent so.
+pub fn call_of(row: Row, lent: u32) -> Asked {
     let fields = row.fields;
-    Call {
-        kind: row.kind,
-        a: narrow(fields[1]),
-        b: narrow(fields[2]),
-        c: narrow(fields[3]),
-        lent: 0,
-    }
+    asked::call(row.kind, fields[1], fields[2], fields[3], lent)
 }

@@ -1,8 +1,11 @@
-// A second plain store with whole copies: after every mark the whole memory is copied. It is fed the calls alone.
+// A second plain store with whole copies: after every mark the whole memory is copied. It is fed the calls and the lent lengths alone.
+mod lengths;
 mod memory;
 mod recent;
 mod refusals;
 
+pub use lengths::Lengths;
+pub use lengths::least;
 use memory::copy;
 use memory::size;
 pub use recent::Cache;
@@ -32,15 +35,14 @@ pub const CACHE: usize = 1000;
 
 pub const ARCHIVE: usize = 1001;
 
-// A call and how the state and the memory are lent to it. Kinds above CHECK are no calls.
+// A call, on the store's state or on the blank one. Kinds above CHECK are no calls.
 pub struct Call {
     pub kind: u32,
     // RESET: L, F, P; WRITE: width, address, value; READ: width, address; LINE: number; ROLLBACK, ADVANCE: k
     pub a: u32,
     pub b: u32,
     pub c: u32,
-    // 0: as needed; 1, 2: the archive or the history one element short; 3: the blank state instead of the store's
-    pub lent: u32,
+    pub blank: bool,
 }
 
 // What a call answers. READ: value and origin; LINE: bytes as two numbers and how many they are; COUNTS: live frames and pages; CHECK: 1.
@@ -252,9 +254,9 @@ fn refused(plain: Plain, kind: u32, refusal: usize) -> Reply {
     }
 }
 
-// A call on the plain store.
-pub fn step(memory: &mut [u32], plain: Plain, call: Call) -> Reply {
-    let refusal = refusals::refusal(memory, plain, call);
+// A call on the plain store, where pieces of these lengths are lent.
+pub fn step(memory: &mut [u32], plain: Plain, call: Call, lent: Lengths) -> Reply {
+    let refusal = refusals::refusal(memory, plain, call, lent);
     if refusal != 0 {
         return refused(plain, call.kind, refusal);
     }

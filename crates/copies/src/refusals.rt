@@ -2,17 +2,27 @@
 use crate::ADVANCE;
 use crate::Call;
 use crate::LINE;
+use crate::Lengths;
 use crate::MARK;
 use crate::Plain;
 use crate::READ;
 use crate::RESET;
 use crate::ROLLBACK;
 use crate::WRITE;
+use crate::lengths;
 use crate::memory;
 use std::num::wrapping_add_usize;
 
-// 4, and 6 for RESET
-fn of_settings(lines: u32, frames: u32, pages: u32, lent: u32) -> usize {
+// A refusal where a test holds.
+fn only(refused: bool, refusal: usize) -> usize {
+    if refused {
+        return refusal;
+    }
+    0
+}
+
+// 4
+fn of_settings(lines: usize, frames: usize, pages: usize) -> usize {
     if lines % 8 != 0 || lines < 8 || lines > 4096 {
         return 4;
     }
@@ -22,10 +32,22 @@ fn of_settings(lines: u32, frames: u32, pages: u32, lent: u32) -> usize {
     if pages < 1 || pages > 4096 {
         return 4;
     }
-    if lent == 1 || lent == 2 {
-        return 6;
-    }
     0
+}
+
+// 6
+fn of_lengths(lines: usize, frames: usize, pages: usize, lent: Lengths) -> usize {
+    let need = lengths::least(lines, frames, pages);
+    only(lengths::is_short(lent, need), 6)
+}
+
+// 4, 6
+fn of_reset(lines: usize, frames: usize, pages: usize, lent: Lengths) -> usize {
+    let settings = of_settings(lines, frames, pages);
+    if settings != 0 {
+        return settings;
+    }
+    of_lengths(lines, frames, pages, lent)
 }
 
 // 7, 8, 9
@@ -74,14 +96,6 @@ fn of_frames(live: usize, k: usize) -> usize {
     0
 }
 
-// A refusal where a test holds.
-fn only(refused: bool, refusal: usize) -> usize {
-    if refused {
-        return refusal;
-    }
-    0
-}
-
 // 7 to 13
 fn of_call(memory: &[u32], plain: Plain, call: Call) -> usize {
     let a = call.a as usize;
@@ -98,18 +112,19 @@ fn of_call(memory: &[u32], plain: Plain, call: Call) -> usize {
 }
 
 // The refusal of a call, or 0.
-pub fn refusal(memory: &[u32], plain: Plain, call: Call) -> usize {
+pub fn refusal(memory: &[u32], plain: Plain, call: Call, lent: Lengths) -> usize {
     if call.kind == RESET {
-        return of_settings(call.a, call.b, call.c, call.lent);
+        return of_reset(call.a as usize, call.b as usize, call.c as usize, lent);
     }
     if call.kind > crate::CHECK {
         return 0;
     }
-    if call.lent == 3 || plain.lines == 0 {
+    if call.blank || plain.lines == 0 {
         return 5;
     }
-    if call.lent != 0 {
-        return 6;
+    let short = of_lengths(plain.lines, plain.frames, plain.pages, lent);
+    if short != 0 {
+        return short;
     }
     of_call(memory, plain, call)
 }

@@ -2,7 +2,8 @@
 //!
 //! Without an argument: the workloads of the report's section VI on ours and on every peer. All answers are compared first, and a difference
 //! ends the program with status 1. Then lines `bench WORKLOAD PEER ns_ours ns_peer ratio`, nanoseconds for each call of the list and ours over
-//! the peer's, and a line for each bar. Bars are aims of speed: one that is missed does not change the status.
+//! the peer's, and a line for each bar. Bars are aims of speed: one that is missed does not change the status. A peer that is missing is told, and
+//! the status is then 1 at the end.
 //!
 //! `--growth`: how the cost of each call grows with L, F, P and the live frames, as a table with tabs.
 //! `--replay LIST`, `--calls PEER` and `--full PEER PAGES`: what `rust/account` has callgrind count.

@@ -10,6 +10,14 @@ use std::time::Instant;
 use vcm::{Refusal, Store};
 
 const REPEATS: usize = 15;
+/// What ours is measured beside.
+const PEERS: [&str; 5] = [
+    Chip::NAME,
+    UndoLog::NAME,
+    LineJournal::NAME,
+    WholeCopy::NAME,
+    "sqlite",
+];
 /// Calls of a list that are timed beside SQLite, which is slow.
 #[cfg(sqlite)]
 const FEW: usize = 10_000;
@@ -157,7 +165,7 @@ fn beside_sqlite(_: &mut Table, _: &Workload) {}
 
 #[cfg(not(sqlite))]
 fn head_sqlite() {
-    println!("# sqlite is not installed");
+    println!("# sqlite is missing: its library was not there when this was built");
 }
 
 fn slow_lines<P: Peer>(table: &mut Table, list: &Workload, ours: Slowest) {
@@ -235,6 +243,17 @@ fn bars(table: &Table) {
     println!("# aims, for later: undo-log at most 4 and then 2, chip-rust at most 1.5; rust/account tells where our time goes");
 }
 
+/// A peer without a line in the table is an error.
+fn all_measured(table: &Table) -> Result<(), String> {
+    let missing = PEERS
+        .into_iter()
+        .find(|peer| table.of(peer).next().is_none());
+    match missing {
+        Some(peer) => Err(format!("the peer {peer} is missing, and was not measured")),
+        None => Ok(()),
+    }
+}
+
 pub fn run() -> Result<(), String> {
     let lists = workloads();
     let long = workload::long_rollbacks(
@@ -281,5 +300,5 @@ pub fn run() -> Result<(), String> {
     }
     latencies(&mut table, &lists[0], &long);
     bars(&table);
-    Ok(())
+    all_measured(&table)
 }

@@ -1,4 +1,5 @@
 -- `cases::step` is safe and ends: no list changes its length. Assumes nothing.
+use borrow.Author.Needs.{needs}
 use Rattle.cases.proofs.step.Statement.{statement}
 use Rattle.cases.proofs.step.Tie as tie
 
@@ -20,26 +21,30 @@ judged-requires c κs = tt
 print-end-requires : tie.Need-print-end-requires
 print-end-requires c κs = tt
 
+-- What the call on the store left.
+abbrev behind-call : tie.After-print-end → tie.After-slice-known13
+behind-call c = c .before .before .before .before .before .before .before .before .before .before .before .before
+
 same-length : tie.Need-same-length
-same-length c = c .before .before .before .before .before .before .before .before .before .before .before .before .before .before .before .before .before .before .before .before .before .before .archive .given
+same-length c = behind-call c .before .before .before .before .before .before .before .before .before .before .before .archive .given
 
 same-length-2 : tie.Need-same-length-2
-same-length-2 c = c .before .before .before .before .before .before .before .before .before .before .before .before .before .before .before .before .before .before .before .before .pool .given
+same-length-2 c = behind-call c .before .before .before .before .before .before .before .before .before .pool .given
 
 same-length-3 : tie.Need-same-length-3
-same-length-3 c = c .before .before .before .before .before .before .before .before .before .before .before .before .before .before .before .before .before .before .groups .given
+same-length-3 c = behind-call c .before .before .before .before .before .before .before .groups .given
 
 same-length-4 : tie.Need-same-length-4
-same-length-4 c = c .before .before .before .before .before .before .before .before .before .before .before .before .before .before .before .before .table .given
+same-length-4 c = behind-call c .before .before .before .before .before .table .given
 
 same-length-5 : tie.Need-same-length-5
-same-length-5 c = c .before .before .before .before .before .before .before .before .before .before .before .before .before .before .owners .given
+same-length-5 c = behind-call c .before .before .before .owners .given
 
 same-length-6 : tie.Need-same-length-6
-same-length-6 c = c .before .before .before .before .before .before .before .before .before .before .before .before .history .given
+same-length-6 c = behind-call c .before .history .given
 
 same-length-7 : tie.Need-same-length-7
-same-length-7 c = c .before .before .before .before .before .before .before .before .memory .given
+same-length-7 c = search needs
 
 returns : tie.Need-returns
 returns c = tt

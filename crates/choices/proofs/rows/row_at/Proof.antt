@@ -1,4 +1,4 @@
--- `cases::row_at` is safe and ends. Assumes nothing.
+-- `choices::rows::row_at` is safe and ends. Assumes nothing.
 use borrow.Author.Needs.{needs}
 use Prim.Native.Nat.{_-_, _≤_}
 use Rattle.choices.proofs.rows.row_at.Statement.{statement}
@@ -10,20 +10,14 @@ Inv-loop script at row₀ i₀ i-end row i = at ≤ i
 abbrev μ-loop : tie.MeasureT-loop
 μ-loop script at row₀ i₀ i-end row i = i-end - i
 
-wrapping-add-usize-requires : tie.Need-wrapping-add-usize-requires Inv-loop μ-loop
-wrapping-add-usize-requires c κs = tt
-
-get-requires : tie.Need-get-requires Inv-loop μ-loop
-get-requires c κs = tt
-
-kind-of-requires : tie.Need-kind-of-requires Inv-loop μ-loop
-kind-of-requires c κs = tt
+kind-at-requires : tie.Need-kind-at-requires Inv-loop μ-loop
+kind-at-requires c κs = tt
 
 loop-holds : tie.Need-loop-holds Inv-loop μ-loop
 loop-holds c = search needs
 
-get-requires-2 : tie.Need-get-requires-2 Inv-loop μ-loop
-get-requires-2 c κs = tt
+get-requires : tie.Need-get-requires Inv-loop μ-loop
+get-requires c κs = tt
 
 with-byte-requires : tie.Need-with-byte-requires Inv-loop μ-loop
 with-byte-requires c κs = tt
@@ -49,11 +43,9 @@ row-at-spec =
     (tie.spec
     Inv-loop
     μ-loop
-    wrapping-add-usize-requires
-    get-requires
-    kind-of-requires
+    kind-at-requires
     loop-holds
-    get-requires-2
+    get-requires
     with-byte-requires
     returns
     add-i

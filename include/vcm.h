@@ -102,11 +102,11 @@ static inline const char *vcm_refusal_text(uint32_t refusal);
 
 /* The cache: 16 sets of two ways. The entry of a set's way is 2 x set + way. Size 752, alignment 4. */
 typedef struct vcm_cache {
-    uint32_t lines[32];  /*   0: the line that the entry holds */
-    uint16_t frames[32]; /* 128: the frame of the line's most recent version, or 65535 for the archive */
-    uint8_t valid[32];   /* 192: 1 for a valid entry */
-    uint8_t bytes[512];  /* 224: 16 for each entry */
-    uint8_t last[16];    /* 736: for each set, the way used last */
+    uint32_t held[32];    /*   0: the line that the entry holds */
+    uint16_t origins[32]; /* 128: the frame of the line's most recent version, or 65535 for the archive */
+    uint8_t valid[32];    /* 192: 1 for a valid entry */
+    uint8_t bytes[512];   /* 224: 16 for each entry */
+    uint8_t last[16];     /* 736: for each set, the way used last */
 } vcm_cache;
 
 /* The settings and the registers of a store. The pool's pages are used in a circle: the needed ones lie next to each other, those of older
@@ -366,7 +366,7 @@ vcm_verdict vcm_raw_check(vcm_state state, const uint8_t *archive, size_t archiv
         (m)->table_len, (m)->owners, (m)->owners_len, (m)->history, (m)->history_len
 
 /* The cache's five arrays. */
-#define VCM_CACHE_OF(s) (s)->cache.lines, (s)->cache.frames, (s)->cache.valid, (s)->cache.bytes, (s)->cache.last
+#define VCM_CACHE_OF(s) (s)->cache.held, (s)->cache.origins, (s)->cache.valid, (s)->cache.bytes, (s)->cache.last
 
 static inline const char *vcm_refusal_text(uint32_t refusal) {
     switch (refusal) {
@@ -468,13 +468,13 @@ static inline uint32_t vcm_mark(vcm_state *state, const vcm_memory *memory) {
 }
 
 static inline uint32_t vcm_rollback(vcm_state *state, const vcm_memory *memory, uint32_t k) {
-    vcm_step r = vcm_raw_rollback(state->registers, state->cache.frames, state->cache.valid, VCM_LENT(memory), k);
+    vcm_step r = vcm_raw_rollback(state->registers, state->cache.origins, state->cache.valid, VCM_LENT(memory), k);
     state->registers = r.registers;
     return r.refusal;
 }
 
 static inline uint32_t vcm_advance(vcm_state *state, const vcm_memory *memory, uint32_t k) {
-    vcm_step r = vcm_raw_advance(state->registers, state->cache.frames, VCM_LENT(memory), k);
+    vcm_step r = vcm_raw_advance(state->registers, state->cache.origins, VCM_LENT(memory), k);
     state->registers = r.registers;
     return r.refusal;
 }

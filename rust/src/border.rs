@@ -12,9 +12,9 @@ use core::mem::{align_of, size_of};
 #[derive(Clone, Copy, Debug, PartialEq, Eq)]
 pub struct Cache {
     /// The line that each entry holds.
-    pub lines: [u32; 32],
+    pub held: [u32; 32],
     /// The frame of that line's most recent version, or 65535 for the archive.
-    pub frames: [u16; 32],
+    pub origins: [u16; 32],
     /// 1 for a valid entry.
     pub valid: [u8; 32],
     /// 16 bytes for each entry.
@@ -179,8 +179,8 @@ const _: () = {
     assert!(at(&registers, 28) == 8);
 
     let cache = Cache {
-        lines: [0x0909_0909; 32],
-        frames: [0x0A0A; 32],
+        held: [0x0909_0909; 32],
+        origins: [0x0A0A; 32],
         valid: [0x0B; 32],
         bytes: [0x0C; 512],
         last: [0x0D; 16],

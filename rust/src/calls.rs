@@ -178,8 +178,8 @@ pub fn write(state: &mut State, lent: &mut Lent, width: u32, address: u32, value
         call!(
             vcm_raw_write(
                 state.registers,
-                &mut c.lines,
-                &mut c.frames,
+                &mut c.held,
+                &mut c.origins,
                 &mut c.valid,
                 &mut c.bytes,
                 &mut c.last
@@ -204,8 +204,8 @@ pub fn read(state: &mut State, lent: Shown, width: u32, address: u32) -> Reading
         call!(
             vcm_raw_read(
                 state.registers,
-                &mut c.lines,
-                &mut c.frames,
+                &mut c.held,
+                &mut c.origins,
                 &mut c.valid,
                 &mut c.bytes,
                 &mut c.last
@@ -248,7 +248,7 @@ pub fn rollback(state: &mut State, lent: &mut Lent, k: u32) -> u32 {
     // SAFETY: any state and any memory is allowed; only exclusive slices are passed as `*mut`.
     let after = unsafe {
         call!(
-            vcm_raw_rollback(state.registers, &c.frames, &mut c.valid),
+            vcm_raw_rollback(state.registers, &c.origins, &mut c.valid),
             lent,
             as_mut_ptr,
             k
@@ -265,7 +265,7 @@ pub fn advance(state: &mut State, lent: &mut Lent, k: u32) -> u32 {
     // SAFETY: any state and any memory is allowed; only exclusive slices are passed as `*mut`.
     let after = unsafe {
         call!(
-            vcm_raw_advance(state.registers, &mut c.frames),
+            vcm_raw_advance(state.registers, &mut c.origins),
             lent,
             as_mut_ptr,
             k

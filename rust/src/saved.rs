@@ -70,8 +70,8 @@ impl Store {
             ],
         );
         let cache = &self.state.cache;
-        put_u32s(&mut bytes, &cache.lines);
-        put_u16s(&mut bytes, &cache.frames);
+        put_u32s(&mut bytes, &cache.held);
+        put_u16s(&mut bytes, &cache.origins);
         bytes.extend_from_slice(&cache.valid);
         bytes.extend_from_slice(&cache.bytes);
         bytes.extend_from_slice(&cache.last);
@@ -141,8 +141,8 @@ impl Store {
                     used: rest.u32(),
                 },
                 cache: Cache {
-                    lines: rest.u32s(),
-                    frames: rest.u16s(),
+                    held: rest.u32s(),
+                    origins: rest.u16s(),
                     valid: rest.u8s(),
                     bytes: rest.u8s(),
                     last: rest.u8s(),

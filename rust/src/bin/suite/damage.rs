@@ -62,8 +62,8 @@ impl Stored {
             9 => {
                 if let Some(entry) = self.entry_of(rng, false) {
                     let cache = &mut self.state.cache;
-                    cache.lines[entry] = rng.below(2 * self.state.registers.lines);
-                    cache.frames[entry] = rng.short();
+                    cache.held[entry] = rng.below(2 * self.state.registers.lines);
+                    cache.origins[entry] = rng.short();
                     cache.valid[entry] = rng.pick(&[0, 2, 3, 255]);
                     cache.bytes[16 * entry + rng.place(16)] ^= 0xFF;
                 }
@@ -76,7 +76,7 @@ impl Stored {
                     rng.below(self.state.registers.lines),
                 ) {
                     let is_held = (0..32).any(|e| {
-                        self.state.cache.valid[e] == 1 && self.state.cache.lines[e] == line
+                        self.state.cache.valid[e] == 1 && self.state.cache.held[e] == line
                     });
                     let home = 2 * (line as usize % 16) + entry % 2;
                     if !is_held && self.state.cache.valid[home] != 1 {
@@ -152,11 +152,11 @@ impl Stored {
                 let cache = &mut self.state.cache;
                 match rng.below(4) {
                     0 => {
-                        cache.lines[entry] =
+                        cache.held[entry] =
                             rng.pick(&[rng.below(self.state.registers.lines), rng.odd_word()])
                     }
                     1 => {
-                        cache.frames[entry] = rng.pick(&[
+                        cache.origins[entry] = rng.pick(&[
                             rng.below(self.state.registers.frames) as u16,
                             ARCHIVE,
                             rng.short(),
@@ -263,7 +263,7 @@ impl Stored {
             }
             7 => {
                 if let Some(entry) = self.entry_of(rng, true) {
-                    self.fill_entry(entry ^ 1, self.state.cache.lines[entry]);
+                    self.fill_entry(entry ^ 1, self.state.cache.held[entry]);
                 }
             }
             8 => {
@@ -274,7 +274,7 @@ impl Stored {
             9 => {
                 if let Some(entry) = self.entry_of(rng, true) {
                     let frame = rng.below(self.state.registers.frames) as u16;
-                    self.state.cache.frames[entry] = rng.pick(&[
+                    self.state.cache.origins[entry] = rng.pick(&[
                         frame,
                         ARCHIVE,
                         ARCHIVE - 1,

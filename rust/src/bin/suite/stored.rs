@@ -75,8 +75,8 @@ impl Stored {
             content.copy_from_slice(bytes);
         }
         let cache = &mut self.state.cache;
-        cache.lines[entry] = line;
-        cache.frames[entry] = frame;
+        cache.held[entry] = line;
+        cache.origins[entry] = frame;
         cache.valid[entry] = 1;
         cache.bytes[16 * entry..16 * entry + 16].copy_from_slice(&content);
     }
@@ -85,7 +85,7 @@ impl Stored {
     pub fn renew_entries(&mut self) {
         for entry in 0..32 {
             if self.state.cache.valid[entry] == 1 {
-                self.fill_entry(entry, self.state.cache.lines[entry]);
+                self.fill_entry(entry, self.state.cache.held[entry]);
             }
         }
     }

@@ -261,13 +261,13 @@ impl<'a> Storage<'a> {
             if cache.valid[entry] != 1 {
                 continue;
             }
-            let line = cache.lines[entry];
+            let line = cache.held[entry];
             let is_in_set = line as usize % 16 == entry / 2;
             let is_below = line < self.state.registers.lines;
             if entry % 2 == 0 {
                 hold(Clause::FirstSet, is_in_set);
                 hold(Clause::FirstBelow, is_below);
-                let is_twice = cache.valid[entry + 1] == 1 && cache.lines[entry + 1] == line;
+                let is_twice = cache.valid[entry + 1] == 1 && cache.held[entry + 1] == line;
                 hold(Clause::Once, !is_twice);
             } else {
                 hold(Clause::SecondSet, is_in_set);
@@ -275,7 +275,7 @@ impl<'a> Storage<'a> {
             }
             let (frame, bytes) = self.recent(line);
             let held = &cache.bytes[16 * entry..16 * entry + 16];
-            hold(Clause::Frame, cache.frames[entry] == frame);
+            hold(Clause::Frame, cache.origins[entry] == frame);
             hold(Clause::Bytes, bytes == Some(held));
         }
     }
@@ -301,7 +301,7 @@ impl<'a> Storage<'a> {
             for way in 0..2 {
                 let entry = 2 * number + way;
                 if state.cache.valid[entry] == 1 {
-                    set.ways[way] = Some(state.cache.lines[entry]);
+                    set.ways[way] = Some(state.cache.held[entry]);
                 }
             }
             // the way used last

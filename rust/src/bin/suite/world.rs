@@ -33,16 +33,16 @@ fn large_settings(rng: &Rng) -> Settings {
 /// A state of which any number may be anything.
 fn any_state(rng: &Rng) -> State {
     let mut cache = Cache {
-        lines: [0; 32],
-        frames: [0; 32],
+        held: [0; 32],
+        origins: [0; 32],
         valid: [0; 32],
         bytes: [0; 512],
         last: [0; 16],
     };
     let few = rng.one_in(2);
     for entry in 0..32 {
-        cache.lines[entry] = if few { rng.below(64) } else { rng.odd_word() };
-        cache.frames[entry] = if few { rng.below(40) } else { rng.word() } as u16;
+        cache.held[entry] = if few { rng.below(64) } else { rng.odd_word() };
+        cache.origins[entry] = if few { rng.below(40) } else { rng.word() } as u16;
         cache.valid[entry] = rng.pick(&[0, 1, 1, 2, 255]);
         cache.last[entry / 2] = rng.pick(&[0, 1, 2, 255]);
     }

@@ -149,13 +149,7 @@ fn step(
     let expected = reply.answer;
     let state_after = told.state;
     let plain_after = reply.plain;
-    let deed = tally::deed(
-        call.kind,
-        expected,
-        state_after.registers.tag,
-        state.registers.cmf,
-        state_after.registers.cmf,
-    );
+    let deed = tally::deed(call.kind, expected, state.registers, state_after.registers);
     let counted = tally::judged(tally, call, deed, answer, expected);
     print_end(call.kind, run.left, after.left, answer, counted);
     Game {

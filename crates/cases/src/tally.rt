@@ -5,6 +5,7 @@ use io::print_decimal;
 use io::write_all;
 use libc::STDOUT_FILENO;
 use std::num::wrapping_add_usize;
+use store::Registers;
 
 // Answers by refusal, 0 for accepted; origins in the places 1 to 3; calls by kind from 14 on; and what is named below.
 pub struct Tally {
@@ -51,13 +52,13 @@ fn origin(n: usize) -> usize {
     }
 }
 
-// Where an accepted call is counted: the tag after it and CMF before and after it are the store's own.
-pub fn deed(kind: u32, answer: Answer, tag: u32, before: u32, after: u32) -> usize {
+// Where an accepted call is counted, by the store's own registers before and after it.
+pub fn deed(kind: u32, answer: Answer, before: Registers, after: Registers) -> usize {
     match kind {
         copies::RESET => RESETS,
         copies::READ => origin(answer.second),
-        copies::MARK => only(after < before, TURNS),
-        copies::ROLLBACK => only(tag == 0, SWEEPS),
+        copies::MARK => only(after.cmf < before.cmf, TURNS),
+        copies::ROLLBACK => only(after.tag == 0, SWEEPS),
         copies::CHECK => only(answer.first == 1, YES),
         _ => OTHER,
     }

@@ -2,8 +2,8 @@
  * vcm.h - version controlled memory: the Rollback Chip of Fujimoto, Tsai and Gopalakrishnan (1988).
  *
  * A store is memory of 16 x L bytes in L lines of 16 bytes. MARK opens a new mark frame, ROLLBACK drops the newest frames and brings
- * back what was there before, ADVANCE folds the oldest frames into the archive. Nothing is copied at a mark and no written bit is
- * cleared at a rollback.
+ * back what was there before, ADVANCE folds the oldest frames into the archive. Nothing is copied at a mark, and a rollback
+ * clears no written bit, but for the sweep that comes with one in 256.
  *
  * Link with libvcm.a (x86-64 Linux), which `tools/library` writes to target/staticlib and `tools/install PREFIX` puts where pkg-config
  * finds it. It calls memcpy and memset alone, allocates nothing and keeps nothing between calls: all that a store is lies in its state
@@ -373,7 +373,7 @@ static inline const char *vcm_refusal_text(uint32_t refusal) {
     case VCM_OK:
         return "accepted";
     case 1:
-        return "the line has more than 80 bytes";
+        return "the line has more than 80 bytes: put one record on a line";
     case 2:
         return "the line is no record: a word and its numbers, with one tab between";
     case 3:
@@ -385,9 +385,9 @@ static inline const char *vcm_refusal_text(uint32_t refusal) {
     case VCM_REFUSAL_MEMORY:
         return "a lent piece of memory is shorter than the sizing call says: lend more, or reset with smaller settings";
     case VCM_REFUSAL_WIDTH:
-        return "the width is not 1, 2 or 4 bytes";
+        return "the width is not 1, 2 or 4 bytes: use one of these";
     case VCM_REFUSAL_ALIGNMENT:
-        return "the address is not a multiple of the width";
+        return "the address is not a multiple of the width: use one that is, or a smaller width";
     case VCM_REFUSAL_RANGE:
         return "the address or the line lies past the end: there are L lines, 16 x L bytes";
     case VCM_REFUSAL_VALUE:

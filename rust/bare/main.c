@@ -7,7 +7,7 @@ void bare_text(char text[256]);
 void rust_eh_personality(void) {}
 
 int main(void) {
-    char text[256];
+    char text[256] = {0};
     bare_text(text);
     puts(text);
     return 0;

@@ -1,4 +1,4 @@
-//! Looks for Debian's SQLite, with which the peer `sqlite` is built; without it that peer is left out.
+//! Looks for Debian's SQLite, with which the peer `sqlite` is built; without it that peer is missing, and the benchmark says so.
 use std::path::Path;
 
 const FOLDERS: [&str; 7] = [
@@ -19,9 +19,13 @@ fn main() {
         .iter()
         .flat_map(|folder| NAMES.iter().map(move |name| Path::new(folder).join(name)))
         .find(|path| path.is_file());
-    if let Some(path) = library {
-        println!("cargo::rerun-if-changed={}", path.display());
-        println!("cargo::rustc-cfg=sqlite");
-        println!("cargo::rustc-link-arg-bins={}", path.display());
+    match library {
+        Some(path) => {
+            println!("cargo::rerun-if-changed={}", path.display());
+            println!("cargo::rustc-cfg=sqlite");
+            println!("cargo::rustc-link-arg-bins={}", path.display());
+        }
+        // A file that is not there has cargo look again the next time.
+        None => println!("cargo::rerun-if-changed={}/{}", FOLDERS[0], NAMES[0]),
     }
 }

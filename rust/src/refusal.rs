@@ -95,8 +95,10 @@ impl Refusal {
             Refusal::Settings => "L, F or P is outside its limits: L is a multiple of 8 from 8 to 4096, F a multiple of 16 from 16 to 256, P 1 to 4096",
             Refusal::State => "the state holds no store, its settings, CMF or OMF being outside their limits: reset it first",
             Refusal::Memory => "a lent piece of memory is shorter than the sizing call says: lend more, or reset with smaller settings",
-            Refusal::Width => "the width is not 1, 2 or 4 bytes",
-            Refusal::Alignment => "the address is not a multiple of the width",
+            Refusal::Width => "the width is not 1, 2 or 4 bytes: use one of these",
+            Refusal::Alignment => {
+                "the address is not a multiple of the width: use one that is, or a smaller width"
+            }
             Refusal::Range => "the address or the line lies past the end: there are L lines, 16 x L bytes",
             Refusal::Value => "the value needs more bytes than the width: write it with a greater width",
             Refusal::Marks => "k is 0 or more than the marks there are, which are one less than the live frames: ask COUNTS",

@@ -31,7 +31,8 @@ entriesOf w = w .frames * blocksOf w
 abbrev pub entryOf : Written → ℕ → ℕ
 entryOf w x = entryAt (w .lines) (x / 512) (x % 512)
 
--- "A page of a live frame is needed if a line in it has its written bit set." A number past the blocks is no place.
+-- "A page of a live frame is needed if a line in it has its written bit set." A number past the blocks is no place. (That only live frames
+-- have effective bits is another clause of well-formedness.)
 unfoldable pub neededAt : Written → ℕ → Bool
 neededAt w x = ltb (x % 512) (blocksOf w) && needs (effective w (indexOf (w .frames) (w .omf) (x / 512))) (x % 512)
 

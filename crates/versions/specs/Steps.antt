@@ -1,4 +1,4 @@
--- What RESET, ADVANCE and WRITE do to archive, pool, table and owners.
+-- What RESET, ADVANCE and WRITE do to archive, pool, groups, table and owners.
 use mathlib.Core.Path.{_≡_}
 use Prim.Native.Nat.{ℕ, zero, suc, _+_, _*_, _/_, _%_, _≤_, _<_, min}
 use mathlib.Core.Bool.{Bool, cond}

@@ -1,6 +1,6 @@
 // Versions of lines in lent memory: where the newest one stands and its bytes, folding versions into the archive, and putting a new one
-// in its page. Every function is safe on any contents; what the `requires` ask of numbers and lengths is tested by the store, and only our
-// own crates call them.
+// in its page. Every function is safe on any contents, but for `clear`, which comes behind `fold` and goes over the pages that this found;
+// what the `requires` ask of numbers and lengths is tested by the store, and only our own crates call them.
 use cache::Entry;
 use numbers::Found;
 use pages::Ring;

@@ -62,13 +62,6 @@ impl Table {
         let asked = self.of(peer).filter(|line| is_asked(&line.workload));
         asked.map(Line::ratio).reduce(f64::max)
     }
-
-    /// Our time for a call of a workload, where it was played beside `chip-rust`.
-    fn ours(&self, workload: &str) -> Option<f64> {
-        let mut lines = self.of(Chip::NAME);
-        let line = lines.find(|line| line.workload == workload)?;
-        Some(line.ours)
-    }
 }
 
 /// For each slice of the list the median of its replays; their sum, for each call. A pause of the scheduler spoils a slice of one replay only.
@@ -91,6 +84,18 @@ fn pair<P: Peer>(list: &Workload, calls: usize) -> (f64, f64) {
     }
     let calls = ops.len() - list.warm;
     (per_call(&ours, calls), per_call(&theirs, calls))
+}
+
+/// A call of ours on one list over a call on another, replayed in turns too.
+fn over(list: &Workload, other: &Workload) -> f64 {
+    let replay = |list: &Workload| timed::<Store>(list.settings, &list.ops, list.warm);
+    let (mut above, mut below) = (Vec::new(), Vec::new());
+    for _ in 0..REPEATS {
+        above.push(replay(list));
+        below.push(replay(other));
+    }
+    let calls = |list: &Workload| list.ops.len() - list.warm;
+    per_call(&above, calls(list)) / per_call(&below, calls(other))
 }
 
 fn beside<P: Peer>(table: &mut Table, list: &Workload) {
@@ -220,7 +225,7 @@ fn refused() -> f64 {
     times[times.len() / 2]
 }
 
-fn bars(table: &Table) {
+fn bars(table: &Table, tight_over_fine: f64) {
     let told = |name: &str, ratio: f64, most: f64| {
         let verdict = if ratio <= most { "ok" } else { "MISSED" };
         println!("bar {name} at most {most}: {ratio:.4} {verdict}");
@@ -237,9 +242,7 @@ fn bars(table: &Table) {
     bar("whole-copy", "fine", 0.25);
     bar("sqlite", "all", 0.02);
     bar("undo-log", LONG, 0.1);
-    if let (Some(tight), Some(fine)) = (table.ours("tight"), table.ours("fine")) {
-        told("tight over fine, both on ours,", tight / fine, 3.0);
-    }
+    told("tight over fine, both on ours,", tight_over_fine, 3.0);
     println!("# aims, for later: undo-log at most 4 and then 2, chip-rust at most 1.5; rust/account tells where our time goes");
 }
 
@@ -298,7 +301,8 @@ pub fn run() -> Result<(), String> {
         beside::<WholeCopy>(&mut table, list);
         beside_sqlite(&mut table, list);
     }
-    latencies(&mut table, &lists[0], &long);
-    bars(&table);
+    let (fine, tight) = (&lists[0], &lists[lists.len() - 1]);
+    latencies(&mut table, fine, &long);
+    bars(&table, over(tight, fine));
     all_measured(&table)
 }

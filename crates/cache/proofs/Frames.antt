@@ -19,20 +19,20 @@ use Rattle.lists.proofs.Lists.{rewrite-length, rewrite-past, rewrite-at}
 use Rattle.cache.proofs.Hits.{valid-below}
 use Rattle.cache.proofs.Uses.{same-ways, carried}
 
-module _ (c : Cache) (s : Sized c) (omf frames n : ℕ) where
-  pub forgotten-sized : Sized (forgotten c omf frames n)
+module _ (c : Cache) (s : Sized c) (frames omf n : ℕ) where
+  pub forgotten-sized : Sized (forgotten c frames omf n)
   unfolding forgotten flagsAfter
   forgotten-sized =
       record {
         held = s .held;
         origins = s .origins;
-        valid = rewrite-length (λ e flag. flagAfter omf frames n (heldFrame c e) flag) (c .valid) 32 ∙ s .valid;
+        valid = rewrite-length (λ e flag. flagAfter frames omf n (heldFrame c e) flag) (c .valid) 32 ∙ s .valid;
         bytes = s .bytes;
         last = s .last;
       }
 
   -- exactly the entries with a dropped frame become invalid
-  pub forgotten-valid : (e : ℕ) → isValid (forgotten c omf frames n) e ≡ (isValid c e && not (isDropped omf frames n (heldFrame c e)))
+  pub forgotten-valid : (e : ℕ) → isValid (forgotten c frames omf n) e ≡ (isValid c e && not (isDropped frames omf n (heldFrame c e)))
   unfolding forgotten flagsAfter isValidIn flagAfter
   forgotten-valid e = go (decLt e 32)
     where
@@ -40,19 +40,19 @@ module _ (c : Cache) (s : Sized c) (omf frames n : ℕ) where
       flag true x = sym (and-false (eqb x 1))
       flag false x = sym (and-true (eqb x 1))
 
-      go : Dec (e < 32) → isValid (forgotten c omf frames n) e ≡ (isValid c e && not (isDropped omf frames n (heldFrame c e)))
+      go : Dec (e < 32) → isValid (forgotten c frames omf n) e ≡ (isValid c e && not (isDropped frames omf n (heldFrame c e)))
       go (yes b) =
-          ap (λ (x : ℕ). eqb x 1) (rewrite-at (λ e flag. flagAfter omf frames n (heldFrame c e) flag) (c .valid) 32 e b (omega (arith, s .valid)))
-          ∙ flag (isDropped omf frames n (heldFrame c e)) (getD (c .valid) e 0)
+          ap (λ (x : ℕ). eqb x 1) (rewrite-at (λ e flag. flagAfter frames omf n (heldFrame c e) flag) (c .valid) 32 e b (omega (arith, s .valid)))
+          ∙ flag (isDropped frames omf n (heldFrame c e)) (getD (c .valid) e 0)
       go (no b) =
           let past : getD (c .valid) e 0 ≡ 0 = List·getD-eq-default (c .valid) 0 {n = e} (omega (arith, s .valid)) in
-          ap (λ (x : ℕ). eqb x 1) (rewrite-past (λ e flag. flagAfter omf frames n (heldFrame c e) flag) (c .valid) 32 e (omega arith) ∙ past)
-          ∙ sym (ap (λ (x : ℕ). eqb x 1 && not (isDropped omf frames n (heldFrame c e))) past)
+          ap (λ (x : ℕ). eqb x 1) (rewrite-past (λ e flag. flagAfter frames omf n (heldFrame c e) flag) (c .valid) 32 e (omega arith) ∙ past)
+          ∙ sym (ap (λ (x : ℕ). eqb x 1 && not (isDropped frames omf n (heldFrame c e))) past)
 
   -- A rollback is Figure 3's, for lines that are gone where the test on their entry's frame says so.
   pub forgotten-shown : (gone : ℕ → Bool)
-      → ((e : ℕ) → e < 32 → isValid c e ≡ true → gone (heldLine c e) ≡ isDropped omf frames n (heldFrame c e))
-      → shown (forgotten c omf frames n) ≡ forget gone (shown c)
+      → ((e : ℕ) → e < 32 → isValid c e ≡ true → gone (heldLine c e) ≡ isDropped frames omf n (heldFrame c e))
+      → shown (forgotten c frames omf n) ≡ forget gone (shown c)
   unfolding shown forget forgotten lineIn unlessGone
   forgotten-shown gone h = fun-ext (λ set. same-ways (way (2 * set)) (way (2 * set + 1)) refl)
     where
@@ -61,47 +61,47 @@ module _ (c : Cache) (s : Sized c) (omf frames n : ℕ) where
       either x false = refl
 
       go : (e : ℕ) (b : Bool) → isValid c e ≡ b
-          → cond (b && not (isDropped omf frames n (heldFrame c e))) (some (heldLine c e)) none
+          → cond (b && not (isDropped frames omf n (heldFrame c e))) (some (heldLine c e)) none
           ≡ unlessGone gone (cond b (some (heldLine c e)) none)
       go e true v =
           rw (h e (valid-below c e s v) v)
-          (either (some (heldLine c e)) (isDropped omf frames n (heldFrame c e)))
+          (either (some (heldLine c e)) (isDropped frames omf n (heldFrame c e)))
       go e false v = refl
 
-      way : (e : ℕ) → lineIn (forgotten c omf frames n) e ≡ unlessGone gone (lineIn c e)
+      way : (e : ℕ) → lineIn (forgotten c frames omf n) e ≡ unlessGone gone (lineIn c e)
       way e =
           ap (λ (b : Bool). cond b (some (heldLine c e)) none) (forgotten-valid e) ∙ go e (isValid c e) refl
 
   pub forgotten-all : (R Q : ℕ → ℕ → List ℕ → Type 0) → All R c
-      → ((m g : ℕ) (b : List ℕ) → isDropped omf frames n g ≡ false → R m g b → Q m g b) → All Q (forgotten c omf frames n)
+      → ((m g : ℕ) (b : List ℕ) → isDropped frames omf n g ≡ false → R m g b → Q m g b) → All Q (forgotten c frames omf n)
   unfolding forgotten bytesIn
   forgotten-all R Q all kept e v =
-      let both : (isValid c e ≡ true) × (not (isDropped omf frames n (heldFrame c e)) ≡ true)
-      = both-true (isValid c e) (not (isDropped omf frames n (heldFrame c e))) (sym (forgotten-valid e) ∙ v) in
-      kept (heldLine c e) (heldFrame c e) (heldBytes c e) (not-true (isDropped omf frames n (heldFrame c e)) (both .1)) (all e (both .0))
+      let both : (isValid c e ≡ true) × (not (isDropped frames omf n (heldFrame c e)) ≡ true)
+      = both-true (isValid c e) (not (isDropped frames omf n (heldFrame c e))) (sym (forgotten-valid e) ∙ v) in
+      kept (heldLine c e) (heldFrame c e) (heldBytes c e) (not-true (isDropped frames omf n (heldFrame c e)) (both .1)) (all e (both .0))
 
-  pub collected-sized : Sized (collected c omf frames n)
+  pub collected-sized : Sized (collected c frames omf n)
   unfolding collected framesAfter
   collected-sized =
       record {
         held = s .held;
-        origins = rewrite-length (λ e frame. frameAfter omf frames n frame) (c .origins) 32 ∙ s .origins;
+        origins = rewrite-length (λ e frame. frameAfter frames omf n frame) (c .origins) 32 ∙ s .origins;
         valid = s .valid;
         bytes = s .bytes;
         last = s .last;
       }
 
-  pub collected-shown : shown (collected c omf frames n) ≡ shown c
+  pub collected-shown : shown (collected c frames omf n) ≡ shown c
   unfolding shown lineIn isValidIn collected
   collected-shown = refl
 
-  pub collected-frame : (e : ℕ) → e < 32 → heldFrame (collected c omf frames n) e ≡ frameAfter omf frames n (heldFrame c e)
+  pub collected-frame : (e : ℕ) → e < 32 → heldFrame (collected c frames omf n) e ≡ frameAfter frames omf n (heldFrame c e)
   unfolding collected framesAfter
   collected-frame e b =
-      rewrite-at (λ e frame. frameAfter omf frames n frame) (c .origins) 32 e b (omega (arith, s .origins))
+      rewrite-at (λ e frame. frameAfter frames omf n frame) (c .origins) 32 e b (omega (arith, s .origins))
 
   pub collected-all : (R Q : ℕ → ℕ → List ℕ → Type 0) → All R c
-      → ((m g : ℕ) (b : List ℕ) → R m g b → Q m (frameAfter omf frames n g) b) → All Q (collected c omf frames n)
+      → ((m g : ℕ) (b : List ℕ) → R m g b → Q m (frameAfter frames omf n g) b) → All Q (collected c frames omf n)
   unfolding collected bytesIn isValidIn
   collected-all R Q all kept e v =
       carried Q refl (sym (collected-frame e (valid-below c e s v))) refl

@@ -82,39 +82,39 @@ module _ (lines valid last : List ℕ) (l : ℕ) (b : Bool) (first : b ≡ isAtI
         taken-older0 q n =
             rw (sym first ∙ f, sym second ∙ g, sym valid0 ∙ not-false v p, sym valid1 ∙ not-false w q, ne-eqb (getD last (setOf l) 0) 0 n)
 
-module _ (omf frames n frame : ℕ) where
-  pub off-circle : frames ≤ frame → false ≡ isBelow omf frames n frame
+module _ (frames omf n frame : ℕ) where
+  pub off-circle : frames ≤ frame → false ≡ isBelow frames omf n frame
   unfolding isBelow
   off-circle h = sym (ap (λ (z : Bool). z && ltb (indexOf frames omf frame) n) (le-ltb frame frames h))
 
-  pub index-under : (i : ℕ) → frame < frames → i ≡ indexOf frames omf frame → i < n → true ≡ isBelow omf frames n frame
+  pub index-under : (i : ℕ) → frame < frames → i ≡ indexOf frames omf frame → i < n → true ≡ isBelow frames omf n frame
   unfolding isBelow
   index-under i h e b =
       sym (ap₂ (λ (y z : Bool). y && z) (lt-ltb frame frames h) (lt-ltb (indexOf frames omf frame) n (omega (arith, sym e))))
 
-  pub index-over : (i : ℕ) → i ≡ indexOf frames omf frame → n ≤ i → false ≡ isBelow omf frames n frame
+  pub index-over : (i : ℕ) → i ≡ indexOf frames omf frame → n ≤ i → false ≡ isBelow frames omf n frame
   unfolding isBelow
   index-over i e b =
       sym (ap (λ (z : Bool). ltb frame frames && z) (le-ltb (indexOf frames omf frame) n (omega (arith, sym e))) ∙ and-false (ltb frame frames))
 
-  pub flag-archive : (flag : ℕ) → frame ≡ archiveFrame → flag ≡ flagAfter omf frames n frame flag
+  pub flag-archive : (flag : ℕ) → frame ≡ archiveFrame → flag ≡ flagAfter frames omf n frame flag
   unfolding flagAfter isDropped
   flag-archive flag h = rw (eq-eqb frame archiveFrame h)
 
-  pub flag-kept : (flag : ℕ) (b : Bool) → b ≡ isBelow omf frames n frame → b ≡ true → flag ≡ flagAfter omf frames n frame flag
+  pub flag-kept : (flag : ℕ) (b : Bool) → b ≡ isBelow frames omf n frame → b ≡ true → flag ≡ flagAfter frames omf n frame flag
   unfolding flagAfter isDropped
   flag-kept flag b e t = rw (sym e ∙ t, and-false (not (eqb frame archiveFrame)))
 
-  pub flag-dropped : (flag : ℕ) (b : Bool) → (frame ≡ archiveFrame → ⊥) → b ≡ isBelow omf frames n frame → b ≡ false
-      → 0 ≡ flagAfter omf frames n frame flag
+  pub flag-dropped : (flag : ℕ) (b : Bool) → (frame ≡ archiveFrame → ⊥) → b ≡ isBelow frames omf n frame → b ≡ false
+      → 0 ≡ flagAfter frames omf n frame flag
   unfolding flagAfter isDropped
   flag-dropped flag b h e t = rw (ne-eqb frame archiveFrame h, sym e ∙ t)
 
-  pub frame-collected : (b : Bool) → b ≡ isBelow omf frames n frame → b ≡ true → archiveFrame ≡ frameAfter omf frames n frame
+  pub frame-collected : (b : Bool) → b ≡ isBelow frames omf n frame → b ≡ true → archiveFrame ≡ frameAfter frames omf n frame
   unfolding frameAfter
   frame-collected b e t = rw (sym e ∙ t)
 
-  pub frame-kept : (b : Bool) → b ≡ isBelow omf frames n frame → b ≡ false → frame ≡ frameAfter omf frames n frame
+  pub frame-kept : (b : Bool) → b ≡ isBelow frames omf n frame → b ≡ false → frame ≡ frameAfter frames omf n frame
   unfolding frameAfter
   frame-kept b e t = rw (sym e ∙ t)
 
@@ -131,16 +131,16 @@ unfolding placedIn
 placed-done c line frame way content lines frames valid bytes last w el ef ev eb ea = cc (w .0, el, ef, ev, eb, ea)
 
 -- the loops' ends
-module _ (omf frames n i : ℕ) (before now : List ℕ) (most : i ≤ 32) (least : 32 ≤ i) where
-  pub forgotten-done : (origins : List ℕ) → now ≡ rewrite i (λ e flag. flagAfter omf frames n (getD origins e 0) flag) before
-      → now ≡ flagsAfter origins omf frames n before
+module _ (frames omf n i : ℕ) (before now : List ℕ) (most : i ≤ 32) (least : 32 ≤ i) where
+  pub forgotten-done : (origins : List ℕ) → now ≡ rewrite i (λ e flag. flagAfter frames omf n (getD origins e 0) flag) before
+      → now ≡ flagsAfter origins frames omf n before
   unfolding flagsAfter
   forgotten-done origins e =
       let d : i ≡ 32 = omega arith in
-      e ∙ ap (λ (k : ℕ). rewrite k (λ e flag. flagAfter omf frames n (getD origins e 0) flag) before) d
+      e ∙ ap (λ (k : ℕ). rewrite k (λ e flag. flagAfter frames omf n (getD origins e 0) flag) before) d
 
-  pub collected-done : now ≡ rewrite i (λ e frame. frameAfter omf frames n frame) before → now ≡ framesAfter omf frames n before
+  pub collected-done : now ≡ rewrite i (λ e frame. frameAfter frames omf n frame) before → now ≡ framesAfter frames omf n before
   unfolding framesAfter
   collected-done e =
       let d : i ≡ 32 = omega arith in
-      e ∙ ap (λ (k : ℕ). rewrite k (λ e frame. frameAfter omf frames n frame) before) d
+      e ∙ ap (λ (k : ℕ). rewrite k (λ e frame. frameAfter frames omf n frame) before) d

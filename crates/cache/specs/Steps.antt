@@ -33,38 +33,38 @@ placedIn c line frame bytes =
     }
 
 -- Whether a frame number lies on the circle with an index from OMF below n.
-unfoldable pub isBelow : (omf frames n frame : ℕ) → Bool
-isBelow omf frames n frame = ltb frame frames && ltb (indexOf frames omf frame) n
+unfoldable pub isBelow : (frames omf n frame : ℕ) → Bool
+isBelow frames omf n frame = ltb frame frames && ltb (indexOf frames omf frame) n
 
 -- Whether a rollback that keeps the frames with an index below `kept` drops an entry with this frame: "Rollback makes an entry
 -- invalid exactly if its line's most recent version lay in a dropped frame." A number off the circle, which no well-formed cache
 -- has, is dropped with them.
-unfoldable pub isDropped : (omf frames kept frame : ℕ) → Bool
-isDropped omf frames kept frame = not (eqb frame archiveFrame) && not (isBelow omf frames kept frame)
+unfoldable pub isDropped : (frames omf kept frame : ℕ) → Bool
+isDropped frames omf kept frame = not (eqb frame archiveFrame) && not (isBelow frames omf kept frame)
 
 -- An entry's valid flag after the rollback, the flags of all entries, and the cache with them.
-unfoldable pub flagAfter : (omf frames kept frame flag : ℕ) → ℕ
-flagAfter omf frames kept frame flag = cond (isDropped omf frames kept frame) 0 flag
+unfoldable pub flagAfter : (frames omf kept frame flag : ℕ) → ℕ
+flagAfter frames omf kept frame flag = cond (isDropped frames omf kept frame) 0 flag
 
-unfoldable pub flagsAfter : (origins : List ℕ) → (omf frames kept : ℕ) → (valid : List ℕ) → List ℕ
-flagsAfter origins omf frames kept valid = rewrite 32 (λ e flag. flagAfter omf frames kept (getD origins e 0) flag) valid
+unfoldable pub flagsAfter : (origins : List ℕ) → (frames omf kept : ℕ) → (valid : List ℕ) → List ℕ
+flagsAfter origins frames omf kept valid = rewrite 32 (λ e flag. flagAfter frames omf kept (getD origins e 0) flag) valid
 
 abbrev pub withFlags : Cache → (valid : List ℕ) → Cache
 withFlags c valid = cacheOf (c .held) (c .origins) valid (c .bytes) (c .last)
 
-unfoldable pub forgotten : Cache → (omf frames kept : ℕ) → Cache
-forgotten c omf frames kept = withFlags c (flagsAfter (c .origins) omf frames kept (c .valid))
+unfoldable pub forgotten : Cache → (frames omf kept : ℕ) → Cache
+forgotten c frames omf kept = withFlags c (flagsAfter (c .origins) frames omf kept (c .valid))
 
 -- The frame number of an entry after an advance over k frames: "Lines collected by ADVANCE keep their entries and count as archive."
-unfoldable pub frameAfter : (omf frames k frame : ℕ) → ℕ
-frameAfter omf frames k frame = cond (isBelow omf frames k frame) archiveFrame frame
+unfoldable pub frameAfter : (frames omf k frame : ℕ) → ℕ
+frameAfter frames omf k frame = cond (isBelow frames omf k frame) archiveFrame frame
 
 -- The frame numbers of all entries then, and the cache with them.
-unfoldable pub framesAfter : (omf frames k : ℕ) → (origins : List ℕ) → List ℕ
-framesAfter omf frames k origins = rewrite 32 (λ e frame. frameAfter omf frames k frame) origins
+unfoldable pub framesAfter : (frames omf k : ℕ) → (origins : List ℕ) → List ℕ
+framesAfter frames omf k origins = rewrite 32 (λ e frame. frameAfter frames omf k frame) origins
 
 abbrev pub withOrigins : Cache → (origins : List ℕ) → Cache
 withOrigins c origins = cacheOf (c .held) origins (c .valid) (c .bytes) (c .last)
 
-unfoldable pub collected : Cache → (omf frames k : ℕ) → Cache
-collected c omf frames k = withOrigins c (framesAfter omf frames k (c .origins))
+unfoldable pub collected : Cache → (frames omf k : ℕ) → Cache
+collected c frames omf k = withOrigins c (framesAfter frames omf k (c .origins))

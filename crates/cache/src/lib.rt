@@ -232,9 +232,9 @@ pub fn recall(last: &mut [u8; 16], entry: u32)
 }
 
 // Whether a frame number lies on the circle with an index from OMF below n.
-fn is_below(frame: u16, omf: u32, frames: u32, n: u32) -> bool
+fn is_below(frame: u16, frames: u32, omf: u32, n: u32) -> bool
     requires { ⌜ Turn frames omf omf ⌝ }
-    ensures { λ r. ⌜ r ≡ isBelow omf frames n frame ⌝ }
+    ensures { λ r. ⌜ r ≡ isBelow frames omf n frame ⌝ }
 {
     let number = frame as u32;
     if frames <= number {
@@ -247,50 +247,50 @@ fn is_below(frame: u16, omf: u32, frames: u32, n: u32) -> bool
 }
 
 // An entry's valid flag after a rollback that keeps the frames with an index below `kept`.
-fn flag_after(frame: u16, flag: u8, omf: u32, frames: u32, kept: u32) -> u8
+fn flag_after(frame: u16, flag: u8, frames: u32, omf: u32, kept: u32) -> u8
     requires { ⌜ Turn frames omf omf ⌝ }
-    ensures { λ r. ⌜ r ≡ flagAfter omf frames kept frame flag ⌝ }
+    ensures { λ r. ⌜ r ≡ flagAfter frames omf kept frame flag ⌝ }
 {
     if frame == ARCHIVE {
         return flag;
     }
-    if is_below(frame, omf, frames, kept) {
+    if is_below(frame, frames, omf, kept) {
         return flag;
     }
     0
 }
 
 // A rollback that keeps the frames with an index below `kept`: the entries of the others are no longer valid.
-pub fn forget(origins: &[u16; 32], valid: &mut [u8; 32], omf: u32, frames: u32, kept: u32)
+pub fn forget(origins: &[u16; 32], valid: &mut [u8; 32], frames: u32, omf: u32, kept: u32)
     requires { ⌜ Turn frames omf omf ⌝ }
-    ensures { λ _. ⌜ now (valid .exit) ≡ flagsAfter (now (origins .entry)) omf frames kept (now (valid .entry)) ⌝ }
+    ensures { λ _. ⌜ now (valid .exit) ≡ flagsAfter (now (origins .entry)) frames omf kept (now (valid .entry)) ⌝ }
 {
     let mut i = 0;
     while i < 32 {
-        valid[i] = flag_after(origins[i], valid[i], omf, frames, kept);
+        valid[i] = flag_after(origins[i], valid[i], frames, omf, kept);
         i += 1;
     }
 }
 
 // An entry's frame after an advance over the k frames from this OMF on.
-fn frame_after(frame: u16, omf: u32, frames: u32, k: u32) -> u16
+fn frame_after(frame: u16, frames: u32, omf: u32, k: u32) -> u16
     requires { ⌜ Turn frames omf omf ⌝ }
-    ensures { λ r. ⌜ r ≡ frameAfter omf frames k frame ⌝ }
+    ensures { λ r. ⌜ r ≡ frameAfter frames omf k frame ⌝ }
 {
-    if is_below(frame, omf, frames, k) {
+    if is_below(frame, frames, omf, k) {
         return ARCHIVE;
     }
     frame
 }
 
 // An advance over the k frames from this OMF on: their lines count as the archive's.
-pub fn collect(origins: &mut [u16; 32], omf: u32, frames: u32, k: u32)
+pub fn collect(origins: &mut [u16; 32], frames: u32, omf: u32, k: u32)
     requires { ⌜ Turn frames omf omf ⌝ }
-    ensures { λ _. ⌜ now (origins .exit) ≡ framesAfter omf frames k (now (origins .entry)) ⌝ }
+    ensures { λ _. ⌜ now (origins .exit) ≡ framesAfter frames omf k (now (origins .entry)) ⌝ }
 {
     let mut i = 0;
     while i < 32 {
-        origins[i] = frame_after(origins[i], omf, frames, k);
+        origins[i] = frame_after(origins[i], frames, omf, k);
         i += 1;
     }
 }

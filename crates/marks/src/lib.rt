@@ -72,7 +72,7 @@ pub fn rollback(
         registers.tag % 256,
         kept as u16,
     );
-    cache::forget(origins, valid, registers.omf, registers.frames, kept);
+    cache::forget(origins, valid, registers.frames, registers.omf, kept);
     let cmf = (registers.cmf + registers.frames - k) % registers.frames;
     registers.cmf = cmf;
     registers.tag = tag;
@@ -107,7 +107,7 @@ pub fn advance(
     let gone = versions::fold(archive, pool, groups, history, owners, ring, k);
     versions::clear(groups, owners, ring, gone);
     written::lower(history, k as u16);
-    cache::collect(origins, registers.omf, registers.frames, k);
+    cache::collect(origins, registers.frames, registers.omf, k);
     let omf = (registers.omf + k) % registers.frames;
     registers.omf = omf;
     registers.first = pages::segment::nth_page(ring, gone);

@@ -44,9 +44,9 @@ module _ (pool : List ℕ) (page slot : ℕ) (asks : AsksPage page slot (length 
       ∙ paste-in-part (128 * page) (length pool - 128 * page) (16 * slot) pool part-room x (omega (arith, asks .room))
 
   -- the part of 16 bytes that is lent, by its two ends
-  pub page-lent : take (128 * page + 16 * slot + 16 - (128 * page + 16 * slot)) (drop (128 * page + 16 * slot) pool) ≡ pageLine pool page slot
+  pub part-lent : take (128 * page + 16 * slot + 16 - (128 * page + 16 * slot)) (drop (128 * page + 16 * slot) pool) ≡ pageLine pool page slot
   unfolding lineAt
-  page-lent =
+  part-lent =
       let n : 128 * page + 16 * slot + 16 - (128 * page + 16 * slot) ≡ 16 = omega arith in
       ap (λ (k : ℕ). take k (drop (128 * page + 16 * slot) pool)) n
 

@@ -224,11 +224,11 @@ module _ (x : Storage) (q : WellStore x) (k gone : ℕ) (some-k : 0 < k) (low : 
       ap₂ (λ (m : ℕ) (v : Line). versionIn m (λ j. frameIn new j l) v) live (collected-archive l)
       ∙ split-version kept k n (λ j. frameIn x j l) (λ j. frameIn new j l) (archiveIn x l) all (λ j h. stays j l h)
 
-  archive-stays : frameAfter (x .state .registers .omf) (x .state .registers .frames) k archiveFrame ≡ archiveFrame
+  archive-stays : frameAfter (x .state .registers .frames) (x .state .registers .omf) k archiveFrame ≡ archiveFrame
   unfolding frameAfter
   archive-stays = ap (λ (t : Bool). cond t archiveFrame archiveFrame) (below-archive (x .state .registers .frames) (x .state .registers .omf) (omega (arith, lim .good .frames-to)) (lim .fits .omf-below) k)
 
-  frame-collected : (o : Place) → Within n o → frameAfter (x .state .registers .omf) (x .state .registers .frames) k (frameNumber (x .state) o) ≡ frameNumber (new .state) (first kept o)
+  frame-collected : (o : Place) → Within n o → frameAfter (x .state .registers .frames) (x .state .registers .omf) k (frameNumber (x .state) o) ≡ frameNumber (new .state) (first kept o)
   unfolding frameAfter frameNumber dropped advancedState
   frame-collected (in-frame j) h =
       ap (λ (t : Bool). cond t archiveFrame (frameAt (x .state .registers .frames) (x .state .registers .omf) (n - 1 - j)))
@@ -244,7 +244,7 @@ module _ (x : Storage) (q : WellStore x) (k gone : ℕ) (some-k : 0 < k) (low : 
           ∙ sym (ap (λ (t : Bool). frameNumber (new .state) (cond t (in-frame j) in-archive)) (le-ltb j kept (omega arith)))
   frame-collected in-archive h = archive-stays
 
-  collected-newest : (l : ℕ) → frameAfter (x .state .registers .omf) (x .state .registers .frames) k (newestFrame x l) ≡ newestFrame new l
+  collected-newest : (l : ℕ) → frameAfter (x .state .registers .frames) (x .state .registers .omf) k (newestFrame x l) ≡ newestFrame new l
   unfolding newestFrame
   collected-newest l =
       frame-collected (foundIn n (λ j. isWritten (frameIn x j l))) (found-within n (λ j. isWritten (frameIn x j l)))
@@ -254,12 +254,12 @@ module _ (x : Storage) (q : WellStore x) (k gone : ℕ) (some-k : 0 < k) (low : 
   collected-coherent : Coherent new
   unfolding advancedState
   collected-coherent =
-      collected-all (x .state .cache) (q .sized) (x .state .registers .omf) (x .state .registers .frames) k (Recent x) (Recent new) (q .coherent)
-      (λ l g b c. (c .0 ∙ sym (collected-latest l), ap (frameAfter (x .state .registers .omf) (x .state .registers .frames) k) (c .1) ∙ collected-newest l))
+      collected-all (x .state .cache) (q .sized) (x .state .registers .frames) (x .state .registers .omf) k (Recent x) (Recent new) (q .coherent)
+      (λ l g b c. (c .0 ∙ sym (collected-latest l), ap (frameAfter (x .state .registers .frames) (x .state .registers .omf) k) (c .1) ∙ collected-newest l))
 
   collected-cache : shown (new .state .cache) ≡ shown (x .state .cache)
   unfolding advancedState
-  collected-cache = collected-shown (x .state .cache) (q .sized) (x .state .registers .omf) (x .state .registers .frames) k
+  collected-cache = collected-shown (x .state .cache) (q .sized) (x .state .registers .frames) (x .state .registers .omf) k
 
   -- the pages of the frames that stay
   collected-pages : WellRing (writtenIn new) (x .state .registers .pages) (new .state .registers .first) (new .state .registers .used) (x .memory .table) (x .memory .owners)
@@ -281,7 +281,7 @@ module _ (x : Storage) (q : WellStore x) (k gone : ℕ) (some-k : 0 < k) (low : 
         long = subst (λ (p : Pieces). enough (settingsIn (x .state)) p ≡ true) (sym (lengths-kept x k gone room (omega (arith, below)) found)) (q .long);
         bits = subst (λ (m : ℕ). WellBits (writtenIn new) (x .state .registers .tag) m) (sym live) (advanced-well (writtenIn x) (q .bits .lent) k below (new .memory .groups) groups-collected (x .state .registers .tag) n (q .bits));
         pages = collected-pages;
-        sized = collected-sized (x .state .cache) (q .sized) (x .state .registers .omf) (x .state .registers .frames) k;
+        sized = collected-sized (x .state .cache) (q .sized) (x .state .registers .frames) (x .state .registers .omf) k;
         version-line = step-versions new _ _ collected-figure next-well;
         archive-line = step-archive new _ _ collected-figure next-well;
         entries = subst (WellCache (settingsIn (x .state))) (sym collected-cache) (q .entries);
@@ -316,7 +316,7 @@ module _ (x : Storage) (k a : ℕ) (told : a ≡ admittedIn x (markedRefusal (li
     pub advance-collects : a ≡ 0 → (archive groups history : List ℕ) → archive ≡ collected-to x k gone .memory .archive
         → groups ≡ collected-to x k gone .memory .groups → history ≡ collected-to x k gone .memory .history
         → (t : Registers) (origins : List ℕ) → t ≡ advancedRegisters (x .state .registers) k gone
-        → origins ≡ framesAfter (x .state .registers .omf) (x .state .registers .frames) k (x .state .cache .origins)
+        → origins ≡ framesAfter (x .state .registers .frames) (x .state .registers .omf) k (x .state .cache .origins)
         → Advances x k 0 (storageOf (stateOf t (withOrigins (x .state .cache) origins)) archive (x .memory .pool) groups (x .memory .table) (x .memory .owners) history)
     unfolding advancedState collected
     advance-collects z archive groups history ea eg eh t origins e frames =

@@ -17,16 +17,16 @@ use Rattle.storage.specs.Steps.{usedState}
 
 module _ (frames omf : ℕ) (few : frames ≤ 4096) (h : omf < frames) (m : ℕ) where
   -- a frame is told by its index, and the archive's number lies off the circle
-  pub below-frame : (i : ℕ) → i < frames → isBelow omf frames m (frameAt frames omf i) ≡ ltb i m
+  pub below-frame : (i : ℕ) → i < frames → isBelow frames omf m (frameAt frames omf i) ≡ ltb i m
   unfolding isBelow
   below-frame i b =
       ap₂ (λ (t : Bool) (k : ℕ). t && ltb k m) (lt-ltb (frameAt frames omf i) frames (frame-below frames omf h i)) (index-frame frames omf h i b)
 
-  pub below-archive : isBelow omf frames m archiveFrame ≡ false
+  pub below-archive : isBelow frames omf m archiveFrame ≡ false
   unfolding isBelow
   below-archive = ap (λ (t : Bool). t && ltb (indexOf frames omf archiveFrame) m) (le-ltb archiveFrame frames (omega arith))
 
-  pub dropped-frame : (i : ℕ) → i < frames → isDropped omf frames m (frameAt frames omf i) ≡ not (ltb i m)
+  pub dropped-frame : (i : ℕ) → i < frames → isDropped frames omf m (frameAt frames omf i) ≡ not (ltb i m)
   unfolding isDropped
   dropped-frame i b =
       ap₂ (λ (s t : Bool). not s && not t) (ne-eqb (frameAt frames omf i) archiveFrame (λ e. omega (arith, frame-below frames omf h i))) (below-frame i b)

@@ -113,7 +113,7 @@ module _ (x : Storage) (q : WellStore x) (k : ℕ) (low : k ≤ liveIn (x .state
   abbrev origin : ℕ → Place
   origin l = foundIn n (λ j. isWritten (frameIn x j l))
 
-  gone-number : (o : Place) → Within n o → isDropped (x .state .registers .omf) (x .state .registers .frames) kept (frameNumber (x .state) o) ≡ dropped k o
+  gone-number : (o : Place) → Within n o → isDropped (x .state .registers .frames) (x .state .registers .omf) kept (frameNumber (x .state) o) ≡ dropped k o
   unfolding dropped isDropped frameNumber
   gone-number (in-frame j) h =
       dropped-frame (x .state .registers .frames) (x .state .registers .omf) (omega (arith, lim .good .frames-to)) (lim .fits .omf-below) kept (n - 1 - j) (omega (arith, lim .live-most))
@@ -124,15 +124,15 @@ module _ (x : Storage) (q : WellStore x) (k : ℕ) (low : k ≤ liveIn (x .state
       turned (no b) = ap not (lt-ltb (n - 1 - j) kept (omega arith)) ∙ sym (le-ltb j k (omega arith))
   gone-number in-archive h = refl
 
-  gone-frame : (l : ℕ) → isDropped (x .state .registers .omf) (x .state .registers .frames) kept (newestFrame x l) ≡ dropped k (origin l)
+  gone-frame : (l : ℕ) → isDropped (x .state .registers .frames) (x .state .registers .omf) kept (newestFrame x l) ≡ dropped k (origin l)
   unfolding newestFrame
   gone-frame l = gone-number (origin l) (found-within n (λ j. isWritten (frameIn x j l)))
 
   rolled-cache : shown (dropped-to .state .cache) ≡ cacheStep (seenOf store x) (CHANGE (ROLLBACK k)) (shown (x .state .cache))
   unfolding rolledState cacheStep seenOf figureSeen
   rolled-cache =
-      forgotten-shown (x .state .cache) (q .sized) (x .state .registers .omf) (x .state .registers .frames) kept (λ l. dropped k (origin l))
-      (λ e b v. sym (ap (isDropped (x .state .registers .omf) (x .state .registers .frames) kept) (q .coherent e v .1) ∙ gone-frame (heldLine (x .state .cache) e)))
+      forgotten-shown (x .state .cache) (q .sized) (x .state .registers .frames) (x .state .registers .omf) kept (λ l. dropped k (origin l))
+      (λ e b v. sym (ap (isDropped (x .state .registers .frames) (x .state .registers .omf) kept) (q .coherent e v .1) ∙ gone-frame (heldLine (x .state .cache) e)))
 
   -- The other lines are found as before.
   number-nearer : (o : Place) → Within kept o → frameNumber (dropped-to .state) o ≡ frameNumber (x .state) (shift k o)
@@ -166,9 +166,9 @@ module _ (x : Storage) (q : WellStore x) (k : ℕ) (low : k ≤ liveIn (x .state
   rolled-coherent : Coherent dropped-to
   unfolding rolledState
   rolled-coherent =
-      forgotten-all (x .state .cache) (q .sized) (x .state .registers .omf) (x .state .registers .frames) kept (Recent x) (Recent dropped-to) (q .coherent)
+      forgotten-all (x .state .cache) (q .sized) (x .state .registers .frames) (x .state .registers .omf) kept (Recent x) (Recent dropped-to) (q .coherent)
       (λ l g b h c.
-      let stays = sym (gone-frame l) ∙ (sym (ap (isDropped (x .state .registers .omf) (x .state .registers .frames) kept) (c .1)) ∙ h) in
+      let stays = sym (gone-frame l) ∙ (sym (ap (isDropped (x .state .registers .frames) (x .state .registers .omf) kept) (c .1)) ∙ h) in
       (c .0 ∙ sym (rolled-latest l stays), c .1 ∙ sym (rolled-newest l stays)))
 
   next-well : WellFigure (settingsIn (x .state)) (figureStep (CHANGE (ROLLBACK k)) (store .registers x) (store .figure x))
@@ -189,7 +189,7 @@ module _ (x : Storage) (q : WellStore x) (k : ℕ) (low : k ≤ liveIn (x .state
         long = subst (λ (p : Pieces). enough (settingsIn (x .state)) p ≡ true) (sym lengths) (q .long);
         bits = subst (λ (m : ℕ). WellBits (writtenIn dropped-to) next m) (sym live) (rolled-well (writtenIn x) (x .state .registers .tag) kept n (q .bits) groups history next r (omega (arith, lim .live-most, lim .good .frames-to)));
         pages = rolled-pages;
-        sized = forgotten-sized (x .state .cache) (q .sized) (x .state .registers .omf) (x .state .registers .frames) kept;
+        sized = forgotten-sized (x .state .cache) (q .sized) (x .state .registers .frames) (x .state .registers .omf) kept;
         version-line = step-versions dropped-to _ _ rolled-figure next-well;
         archive-line = step-archive dropped-to _ _ rolled-figure next-well;
         entries = rolled-entries;
@@ -248,12 +248,12 @@ module _ (x : Storage) (k a : ℕ) (told : a ≡ admittedIn x (markedRefusal (li
 
     -- in the form in which the code has the registers and the valid flags
     pub rollback-drops : (t : Registers) (valid : List ℕ) → t ≡ rolledRegisters (x .state .registers) k next left
-        → valid ≡ flagsAfter (x .state .cache .origins) (x .state .registers .omf) (x .state .registers .frames) (live - k) (x .state .cache .valid)
+        → valid ≡ flagsAfter (x .state .cache .origins) (x .state .registers .frames) (x .state .registers .omf) (live - k) (x .state .cache .valid)
         → RollsBack x k 0 (after (stateOf t (withFlags (x .state .cache) valid)))
     unfolding rolledState forgotten
     rollback-drops t valid e flags =
         let same : stateOf t (withFlags (x .state .cache) valid) ≡ rolledState (x .state) k next left =
-        λ i. stateOf (e i) (withFlags (x .state .cache) ((flags ∙ ap (λ (n : ℕ). flagsAfter (x .state .cache .origins) (x .state .registers .omf) (x .state .registers .frames) n (x .state .cache .valid)) kept-is) i))
+        λ i. stateOf (e i) (withFlags (x .state .cache) ((flags ∙ ap (λ (n : ℕ). flagsAfter (x .state .cache .origins) (x .state .registers .frames) (x .state .registers .omf) n (x .state .cache .valid)) kept-is) i))
         in (
           subst (λ (s : State). Promise store (ON (CHANGE (ROLLBACK k))) x (outcome 0) (after s)) (sym same) promised,
           λ d. subst (λ (s : State). RolledTo (x .state) (x .memory .groups) (x .memory .owners) (x .memory .history) k s groups history) (sym same) (record { state = refl; pages = left-is; memory = exact }),

@@ -57,7 +57,7 @@ rolledRegisters r k tag used = registersWith r ((r .cmf + r .frames - k) % r .fr
 
 unfoldable pub rolledState : State → (k tag used : ℕ) → State
 rolledState s k tag used =
-    stateOf (rolledRegisters (s .registers) k tag used) (forgotten (s .cache) (s .registers .omf) (s .registers .frames) (liveIn s - k))
+    stateOf (rolledRegisters (s .registers) k tag used) (forgotten (s .cache) (s .registers .frames) (s .registers .omf) (liveIn s - k))
 
 -- What it leaves in all: the state with the next tag and the pages of the frames that stay, and the groups and the history that go with it.
 -- The tag handed to the history is the state's, cut to its 8 bits; which tag is next is the history's choice.
@@ -80,7 +80,7 @@ advancedRegisters r k gone =
 
 unfoldable pub advancedState : State → (k gone : ℕ) → State
 advancedState s k gone =
-    stateOf (advancedRegisters (s .registers) k gone) (collected (s .cache) (s .registers .omf) (s .registers .frames) k)
+    stateOf (advancedRegisters (s .registers) k gone) (collected (s .cache) (s .registers .frames) (s .registers .omf) k)
 
 -- What it leaves in all: the state, the archive with the versions that these pages have, the groups without their bits, and the history.
 pub record AdvancedTo (s : State) (archive pool groups owners history : List ℕ) (k : ℕ) (t : State) (archive-after groups-after history-after : List ℕ) : Type 0 where

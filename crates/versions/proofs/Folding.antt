@@ -77,9 +77,6 @@ module _ (w : Written) (pool : List ℕ) (page index block : ℕ) (archive : Lis
   lines-none c = sym (ap (λ (t : Bool). cond t (foldedLines w pool page index block 8 archive) archive) (le-ltb block (blocksOf w) c))
 
 -- ---- the pages of the ring
-pub page-owned : (pages first n page long : ℕ) → first < pages → pages ≤ long → page ≡ frameAt pages first n → page < long
-page-owned pages first n page long b o at = omega (arith, at, frame-below pages first b n)
-
 module _ (w : Written) (pages first used : ℕ) (pool owners archive : List ℕ) (k : ℕ) where
   abbrev indexes : ℕ → ℕ
   indexes = indexAt (w .frames) (w .omf) pages first owners

@@ -10,10 +10,10 @@ use Rattle.cache.proofs.collect.Statement.{statement}
 use Rattle.cache.proofs.collect.Tie as tie
 
 abbrev Inv-loop : tie.InvT-loop
-Inv-loop origins₀ omf frames k i₀ origins i = (i ≤ 32) × (origins ≡ rewrite i (λ e frame. frameAfter omf frames k frame) origins₀)
+Inv-loop origins₀ frames omf k i₀ origins i = (i ≤ 32) × (origins ≡ rewrite i (λ e frame. frameAfter frames omf k frame) origins₀)
 
 abbrev μ-loop : tie.MeasureT-loop
-μ-loop origins₀ omf frames k i₀ origins i = 32 - i
+μ-loop origins₀ frames omf k i₀ origins i = 32 - i
 
 loop-holds : tie.Need-loop-holds Inv-loop μ-loop
 unfolding rewrite

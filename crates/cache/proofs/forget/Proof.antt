@@ -11,10 +11,10 @@ use Rattle.cache.proofs.forget.Statement.{statement}
 use Rattle.cache.proofs.forget.Tie as tie
 
 abbrev Inv-loop : tie.InvT-loop
-Inv-loop origins valid₀ omf frames kept i₀ valid i = (i ≤ 32) × (valid ≡ rewrite i (λ e flag. flagAfter omf frames kept (getD origins e 0) flag) valid₀)
+Inv-loop origins valid₀ frames omf kept i₀ valid i = (i ≤ 32) × (valid ≡ rewrite i (λ e flag. flagAfter frames omf kept (getD origins e 0) flag) valid₀)
 
 abbrev μ-loop : tie.MeasureT-loop
-μ-loop origins valid₀ omf frames kept i₀ valid i = 32 - i
+μ-loop origins valid₀ frames omf kept i₀ valid i = 32 - i
 
 loop-holds : tie.Need-loop-holds Inv-loop μ-loop
 unfolding rewrite

@@ -2,7 +2,8 @@
 use Prim.Native.Nat.{_-_}
 use native.Mathlib.Omega.{arith}
 use borrow.Author.Needs.{needs}
-use Rattle.versions.proofs.Folding.{Clearing, clearing-start, page-owned, clearing-asks, clearing-next, clearing-end}
+use Rattle.pages.proofs.Halving.{page-lent}
+use Rattle.versions.proofs.Folding.{Clearing, clearing-start, clearing-asks, clearing-next, clearing-end}
 use Rattle.versions.proofs.clear.Statement.{statement}
 use Rattle.versions.proofs.clear.Tie as tie
 
@@ -25,7 +26,7 @@ mul-clear-page : tie.Need-mul-clear-page Inv-loop μ-loop
 mul-clear-page c = search needs
 
 shared-slice-read-clear-page : tie.Need-shared-slice-read-clear-page Inv-loop μ-loop
-shared-slice-read-clear-page c = let s : tie.Start Inv-loop μ-loop = search in let t : tie.In-loop Inv-loop μ-loop = search in let f : tie.After-frame-at Inv-loop μ-loop = search in page-owned _ _ _ _ _ (s .pre .ring .first-below) (s .pre .ring .owners-long) (f .frame-at .ensures)
+shared-slice-read-clear-page c = let s : tie.Start Inv-loop μ-loop = search in let t : tie.In-loop Inv-loop μ-loop = search in let f : tie.After-frame-at Inv-loop μ-loop = search in page-lent _ _ _ _ _ (s .args .owners .now) (s .pre .ring) _ _ (f .frame-at .ensures)
 
 clear-page-requires : tie.Need-clear-page-requires Inv-loop μ-loop
 clear-page-requires c κs = let s : tie.Start Inv-loop μ-loop = search in let t : tie.In-loop Inv-loop μ-loop = search in let f : tie.After-frame-at Inv-loop μ-loop = search in clearing-asks _ _ _ _ _ _ _ _ _ (s .pre) _ _ (t .before .loop .inv) (t .loop-test .taken) _ (f .frame-at .ensures)

@@ -4,7 +4,8 @@ use Prim.Native.Nat.{_-_}
 use native.Mathlib.Omega.{arith}
 use borrow.Author.Needs.{needs}
 use Rattle.written.specs.Bits.{writtenAt}
-use Rattle.versions.proofs.Folding.{Pages, pages-start, page-owned, pages-stop, pages-ask, pages-next, pages-end}
+use Rattle.pages.proofs.Halving.{page-lent}
+use Rattle.versions.proofs.Folding.{Pages, pages-start, pages-stop, pages-ask, pages-next, pages-end}
 use Rattle.versions.proofs.fold.Statement.{statement}
 use Rattle.versions.proofs.fold.Tie as tie
 
@@ -27,7 +28,7 @@ mul-owner : tie.Need-mul-owner Inv-loop μ-loop
 mul-owner c = search needs
 
 shared-slice-read-owner : tie.Need-shared-slice-read-owner Inv-loop μ-loop
-shared-slice-read-owner c = let s : tie.Start Inv-loop μ-loop = search in let f : tie.After-frame-at Inv-loop μ-loop = search in page-owned _ _ _ _ _ (s .pre .0 .ring .first-below) (s .pre .0 .ring .owners-long) (f .frame-at .ensures)
+shared-slice-read-owner c = let s : tie.Start Inv-loop μ-loop = search in let f : tie.After-frame-at Inv-loop μ-loop = search in page-lent _ _ _ _ _ (s .args .owners .now) (s .pre .0 .ring) _ _ (f .frame-at .ensures)
 
 owner-index-requires : tie.Need-owner-index-requires Inv-loop μ-loop
 owner-index-requires c κs = let s : tie.Start Inv-loop μ-loop = search in (s .pre .0 .ring .omf-below, s .pre .0 .ring .frames-few)

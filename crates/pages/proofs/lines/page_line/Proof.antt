@@ -1,5 +1,5 @@
 -- `pages::lines::page_line` meets its contract. Assumes nothing.
-use Rattle.pages.proofs.Places.{page-lent}
+use Rattle.pages.proofs.Places.{part-lent}
 use borrow.Author.Needs.{needs}
 use Rattle.pages.proofs.lines.page_line.Statement.{statement}
 use Rattle.pages.proofs.lines.page_line.Tie as tie
@@ -26,7 +26,7 @@ part-result-end : tie.Need-part-result-end
 part-result-end c = search needs
 
 returns : tie.Need-returns
-returns c = let s : tie.Start = search in page-lent _ _ _ (s .pre)
+returns c = let s : tie.Start = search in part-lent _ _ _ (s .pre)
 
 pub page-line-spec : {M : Type 1} → statement M
 page-line-spec =

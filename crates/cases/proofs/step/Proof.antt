@@ -21,18 +21,21 @@ judged-requires c κs = tt
 print-end-requires : tie.Need-print-end-requires
 print-end-requires c κs = tt
 
--- What the call on the store left.
+-- What the call on the store left, and of it the groups.
 abbrev behind-call : tie.After-print-end → tie.After-slice-known13
-behind-call c = c .before .before .before .before .before .before .before .before .before .before .before .before
+behind-call c = let m = c .before .before .before .before .before .before in m .before .before .before .before .before .before
+
+abbrev groups-at : tie.After-print-end → tie.After-groups
+groups-at c = behind-call c .before .before .before .before .before .before .before
 
 same-length : tie.Need-same-length
-same-length c = behind-call c .before .before .before .before .before .before .before .before .before .before .before .archive .given
+same-length c = groups-at c .before .before .before .before .archive .given
 
 same-length-2 : tie.Need-same-length-2
-same-length-2 c = behind-call c .before .before .before .before .before .before .before .before .before .pool .given
+same-length-2 c = groups-at c .before .before .pool .given
 
 same-length-3 : tie.Need-same-length-3
-same-length-3 c = behind-call c .before .before .before .before .before .before .before .groups .given
+same-length-3 c = groups-at c .groups .given
 
 same-length-4 : tie.Need-same-length-4
 same-length-4 c = behind-call c .before .before .before .before .before .table .given

@@ -62,11 +62,14 @@ loop-less : tie.Need-loop-less Inv-loop μ-loop
 loop-less c = omega arith
 
 loop-again : tie.Need-loop-again Inv-loop μ-loop
-loop-again c = (
-  omega arith,
-  area-more _ _ _ (λ a g. maskedOf (c .before .before .before .before .before .before .before .before .args .shape .frames) (c .before .before .before .before .before .before .before .before .args .shape .omf) a (c .before .before .before .before .before .before .before .before .args .history .now) g)
-      _ _ _ (c .before .before .before .before .loop-test .taken) (c .before .before .before .before .before .before .before .before .pre .groups-long) (c .before .before .before .before .before .loop .inv .1) (c .before .before .sweep-area .ensures),
-)
+loop-again c =
+    let w : tie.After-sweep-area Inv-loop μ-loop = search in
+    let t : tie.In-loop Inv-loop μ-loop = search in
+    let s : tie.Start Inv-loop μ-loop = search in (
+      omega arith,
+      area-more _ _ _ (λ a g. maskedOf (s .args .shape .frames) (s .args .shape .omf) a (s .args .history .now) g) _ _ _ (t .loop-test .taken) (s .pre .groups-long) (t .before .loop .inv .1)
+          (w .sweep-area .ensures),
+    )
 
 same-length : tie.Need-same-length Inv-loop μ-loop
 same-length c = c .before .loop .inv .1 .long

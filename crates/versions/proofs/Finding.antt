@@ -141,23 +141,27 @@ module _ (archive pool : List ℕ) (line : ℕ) (spot : Spot) (x : Line) where
   content-archive e h = h ∙ ap (contentOf archive pool line) (sym e)
 
 -- ---- the version that is given
-module _ (w : Written) (pages live line : ℕ) (archive pool table : List ℕ) (r : Found) (spot : Spot) (x : Line)
-    (found-is : r ≡ newestFrom w line (live - 1)) (spot-is : spot ≡ spotOf (w .lines) (w .frames) (w .omf) pages table line r)
-    (content-is : x ≡ contentOf archive pool line spot) where
-  version-is : (n : ℕ) (o : Origin) → n ≡ numberOf (w .frames) (w .omf) r → o ≡ backIn live r
+module _ (w : Written) (pages live line : ℕ) (archive pool table : List ℕ) (r : Found) (x : Line) (found-is : r ≡ newestFrom w line (live - 1)) where
+  version-is : (spot : Spot) (n : ℕ) (o : Origin) → spot ≡ spotOf (w .lines) (w .frames) (w .omf) pages table line r → x ≡ contentOf archive pool line spot
+      → n ≡ numberOf (w .frames) (w .omf) r → o ≡ backIn live r
       → record { content = x; frame = n; origin = o } ≡ newestOf w pages live archive pool table line
   unfolding newestOf
-  version-is n o en eo = cc
+  version-is spot n o es ex en eo = cc
 
-  pub newest-at : (i f : ℕ) → r ≡ At i → f ≡ frameAt (w .frames) (w .omf) i
+  pub newest-at : (i f : ℕ) (spot : Spot) → r ≡ At i → spot ≡ spotOf (w .lines) (w .frames) (w .omf) pages table line (At i) → x ≡ contentOf archive pool line spot
+      → f ≡ frameAt (w .frames) (w .omf) i
       → record { content = x; frame = f; origin = origin.Frame (live - 1 - i) } ≡ newestOf w pages live archive pool table line
   unfolding numberOf backIn
-  newest-at i f e h =
-      version-is f (origin.Frame (live - 1 - i)) (h ∙ ap (numberOf (w .frames) (w .omf)) (sym e)) (ap (backIn live) (sym e))
+  newest-at i f spot e s h n =
+      version-is spot f (origin.Frame (live - 1 - i)) (s ∙ ap (spotOf (w .lines) (w .frames) (w .omf) pages table line) (sym e)) h
+      (n ∙ ap (numberOf (w .frames) (w .omf)) (sym e)) (ap (backIn live) (sym e))
 
-  pub newest-none : r ≡ Nothing → record { content = x; frame = 65535; origin = origin.Archive } ≡ newestOf w pages live archive pool table line
-  unfolding numberOf backIn
-  newest-none e = version-is 65535 origin.Archive (ap (numberOf (w .frames) (w .omf)) (sym e)) (ap (backIn live) (sym e))
+  pub newest-none : r ≡ Nothing → x ≡ archiveLine archive line
+      → record { content = x; frame = 65535; origin = origin.Archive } ≡ newestOf w pages live archive pool table line
+  unfolding numberOf backIn contentOf
+  newest-none e h =
+      version-is Archive 65535 origin.Archive (spot-nothing (w .lines) (w .frames) (w .omf) pages table line r e) h
+      (ap (numberOf (w .frames) (w .omf)) (sym e)) (ap (backIn live) (sym e))
 
 module _ (lines frames valid bytes : List ℕ) (w : Written) (pages live line : ℕ) (archive pool table : List ℕ) (r : Entry) (told : r ≡ hitIn lines valid line) where
   pub latest-hit : (e n : ℕ) (x : Line) → r ≡ Hit e → x ≡ bytesIn bytes e → n ≡ getD frames e 0
@@ -176,6 +180,10 @@ module _ (w : Written) (pages live line : ℕ) (archive pool table : List ℕ) (
     (told : r ≡ newestFrom w line (live - 1)) (at : r ≡ At i) where
   pub newest-within : i ≤ live - 1
   newest-within = newest-below w line (live - 1) i (sym told ∙ at)
+
+  pub newest-asks : AsksSpot (w .lines) (w .frames) (w .omf) line (At i) (length table)
+  newest-asks =
+      spot-asks w table line (live - 1) (At i) (asks .asks) (asks .line-below) (omega (arith, asks .live-some, asks .live-within)) (sym at ∙ told)
 
   pub newest-turn : Turn (w .frames) (w .omf) i
   newest-turn =

@@ -89,10 +89,10 @@ pub fn newest(
     ensures { λ r. ⌜ r ≡ newestOf (writtenAt shape (now (groups .entry)) (now (history .entry))) pages live (now (archive .entry)) (now (pool .entry)) (now (table .entry)) line ⌝ }
 {
     let found = written::search(groups, history, shape, line, live - 1);
-    let at = locate(table, shape, pages, line, found);
-    let content = content_at(archive, pool, line, at);
     match found {
         Found::At(i) => {
+            let at = locate(table, shape, pages, line, found);
+            let content = content_at(archive, pool, line, at);
             let frame = frames::frame_at(shape.frames, shape.omf, i) as u16;
             let back = live - 1 - i;
             Version {
@@ -102,7 +102,7 @@ pub fn newest(
             }
         }
         Found::Nothing => Version {
-            content,
+            content: pages::lines::read_archive_line(archive, line),
             frame: cache::ARCHIVE,
             origin: Origin::Archive,
         },

@@ -3,25 +3,21 @@ use mathlib.Core.Path.{_≡_, refl, sym, _∙_, ap}
 use mathlib.Core.Bool.{Bool, cond}
 use mathlib.Core.List.{List}
 use Prim.Native.Nat.{ℕ, _+_, _*_, _/_, _%_, _-_, _≤_, _<_, min}
-use native.Mathlib.Nat.{mul-le-mul, mul-le-mul-right, suc-mul, zero-mul}
+use native.Mathlib.Nat.{add-zero, mul-le-mul, mul-le-mul-right, suc-mul, zero-mul}
+use native.Mathlib.Numerals.{add-one}
 use native.Mathlib.Omega.{arith}
 use borrow.Author.Tests.{eq-eqb, ne-eqb, lt-ltb, le-ltb}
-use borrow.Rule.Slice.PartMut.{midOf, putMid}
 use lib.Arith.{digits-div}
 use lib.ListN.{length, getD, set}
-use Rattle.lists.specs.Lists.{rewrite}
-use Rattle.written.specs.Bits.{Written, writtenOf, boundOf, firstIndex, cutOf, windowOf}
+use Rattle.lists.specs.Lists.{rewrite, rewriteFrom}
+use Rattle.written.specs.Bits.{Written, writtenOf, AsksWritten, Near, placeOf, boundOf, firstIndex, cutOf, windowOf}
 use Rattle.written.specs.Steps.{maskedOf, Entered, entered, swept, lowerBound, nextTag, RolledBack}
-use Rattle.lists.proofs.Lists.{Rewritten, rewrite-start, rewrite-end, rewrite-length, rewrite-past, rewrite-part}
+use Rattle.lists.proofs.Lists.{Rewritten, rewrite-start, rewrite-end, rewrite-length, rewrite-past, rewrite-behind}
 use Rattle.written.proofs.Windows.{cut-none}
 
 -- the groups are few
 pub count-few : (lines frames : ℕ) → lines ≤ 4096 → frames ≤ 4096 → frames / 16 * lines ≤ 1048576
 count-few lines frames a b = mul-le-mul {n₁ = frames / 16} {m₁ = lines} {n₂ = 256} {m₂ = 4096} (omega arith) a
-
--- and so are those before an area
-pub place-few : (lines frames area : ℕ) → lines ≤ 4096 → frames ≤ 4096 → area < frames / 16 → area * lines ≤ 1048576
-place-few lines frames area a b c = mul-le-mul {n₁ = area} {m₁ = lines} {n₂ = 256} {m₂ = 4096} (omega arith) a
 
 pub entered-told : (before now : List ℕ) (tag kept : ℕ) → now ≡ rewrite (tag + 1) (λ _ e. min e kept) before → Entered tag kept before now
 unfolding entered
@@ -42,19 +38,19 @@ unfolding maskedOf windowOf
 masked-told frames omf area g s u r history es eu er = cc
 
 -- The groups of a working area lie in the lent list,
-pub area-within : (lines areas area n : ℕ) → area < areas → areas * lines ≤ n → area * lines + lines ≤ n
-area-within lines areas area n b h = omega (arith, mul-le-mul-right lines b, suc-mul area lines)
+pub area-near : (w : Written) (area line now : ℕ) → AsksWritten w → area < w .frames / 16 → now ≡ length (w .groups) → line < w .lines
+    → Near (w .lines) area line × (placeOf (w .lines) area line < now)
+area-near w area line now a b e c = (
+  record { lines-few = a .lines-few; area-few = omega (arith, a .frames-few); line-few = omega (arith, a .lines-few) },
+  omega (arith, a .groups-long, mul-le-mul-right (w .lines) b, suc-mul area (w .lines)),
+)
 
 -- and a list that is rewritten area by area has these groups rewritten one turn later.
-pub area-more : (lines areas area : ℕ) (h : ℕ → ℕ → ℕ) (xs now ys : List ℕ) → area < areas → areas * lines ≤ length xs
-    → Rewritten (area * lines) (λ at g. h (at / lines) g) xs now
-    → ys ≡ rewrite (length (midOf (area * lines) (area * lines + lines - area * lines) now)) (λ _ g. h area g) (midOf (area * lines) (area * lines + lines - area * lines) now)
-    → Rewritten ((area + 1) * lines) (λ at g. h (at / lines) g) xs (putMid (area * lines) (area * lines + lines - area * lines) now ys)
-area-more lines areas area h xs now ys b room done e =
-    let k : area * lines + lines - area * lines ≡ lines = omega arith in
-    let next : area * lines + (area * lines + lines - area * lines) ≡ (area + 1) * lines = omega (arith, suc-mul area lines) in
-    rw next at (rewrite-part {f = λ at g. h (at / lines) g} (area * lines) (area * lines + lines - area * lines) (h area) done
-    (omega (arith, area-within lines areas area (length xs) b room)) (λ j x c. ap (λ (a : ℕ). h a x) (sym (digits-div area (omega (arith, k, c))))) ys e)
+pub area-more : (lines area : ℕ) (h : ℕ → ℕ → ℕ) (xs now after : List ℕ) → Rewritten (area * lines) (λ at g. h (at / lines) g) xs now
+    → after ≡ rewriteFrom (placeOf lines area 0) lines (h area) now → Rewritten ((area + 1) * lines) (λ at g. h (at / lines) g) xs after
+area-more lines area h xs now after done e =
+    rw (add-one area, suc-mul area lines) (rewrite-behind {f = λ at g. h (at / lines) g} (area * lines) lines (h area) done
+    (λ j x b. ap (λ (a : ℕ). h a x) (sym (digits-div area b))) after (rw (add-zero (area * lines)) at e))
 
 -- At the start none are, and at the end all.
 pub areas-start : (lines : ℕ) (f : ℕ → ℕ → ℕ) (xs : List ℕ) → Rewritten (0 * lines) f xs xs

@@ -1,22 +1,22 @@
 -- A frame's bits cleared in neighbouring groups: other bits, tags and groups stay. Assumes nothing.
-use mathlib.Core.Path.{_≡_, refl, sym, _∙_, ap}
+use mathlib.Core.Path.{_≡_, sym, _∙_, ap}
 use mathlib.Core.Bool.{Bool, true, false, not, _&&_, false≢true}
 use mathlib.Core.Logic.{_≢_, _⊎_, inl, inr}
 use mathlib.Core.List.{List}
-use Prim.Native.Nat.{ℕ, zero, suc, _+_, _*_, _/_, _%_, _≤_, _<_}
+use Prim.Native.Nat.{ℕ, _+_, _*_, _/_, _%_, _≤_, _<_}
 use native.Mathlib.Nat.{mul-le-mul, le-refl, suc-mul}
 use native.Mathlib.Decide.{ℕ-discrete, decLt}
-use native.Mathlib.Numerals.{add-one}
 use native.Mathlib.Omega.{arith}
 use borrow.Author.Tests.{not-true, not-false}
 use lib.Dec.{ltb}
-use lib.ListN.{length, getD, set, drop, length-set}
-use lib.Seq.{getD-set-same, getD-set-other, drop-set-lt}
+use lib.ListN.{length, getD, drop}
+use Rattle.lists.specs.Lists.{rewriteFrom}
+use Rattle.lists.proofs.Lists.{from-length, from-drop, from-outside, from-inside}
 use Rattle.frames.specs.Circle.{frameAt}
 use Rattle.numbers.specs.Digits.{digit, bit, unsetAt}
 use Rattle.numbers.proofs.Digits.{digit-below, digit-bit, bit-none, unset-under, unset-own, unset-over, unset-le}
 use Rattle.written.specs.Bits.{Written, placeOf, tagOf, boundOf, standing, effective}
-use Rattle.written.specs.Steps.{unsetIn, clearedFrom, clearedBlock}
+use Rattle.written.specs.Steps.{unsetIn, clearedBlock}
 use Rattle.written.proofs.Setting.{tagged-bit}
 
 -- One group.
@@ -44,77 +44,6 @@ module _ (f g : ℕ) where
 
       low : g % 65536 % 65536 ≡ g % 65536
       low = omega arith
-
--- Neighbouring groups.
-module _ (f at : ℕ) (groups : List ℕ) where
-  pub cleared-long : (n : ℕ) → length (clearedFrom f at n groups) ≡ length groups
-  unfolding clearedFrom
-  cleared-long zero = refl
-  cleared-long (suc n) = length-set (clearedFrom f at n groups) (at + n) (unsetIn f (getD groups (at + n) 0)) ∙ cleared-long n
-
-  pub cleared-past : (n m : ℕ) → at + n ≤ m → drop m (clearedFrom f at n groups) ≡ drop m groups
-  unfolding clearedFrom
-  cleared-past zero m h = refl
-  cleared-past (suc n) m h =
-      drop-set-lt m (clearedFrom f at n groups) (at + n) (unsetIn f (getD groups (at + n) 0)) (omega arith) ∙ cleared-past n m (omega arith)
-
-  pub cleared-outside : (n p : ℕ) → (p < at) ⊎ (at + n ≤ p) → getD (clearedFrom f at n groups) p 0 ≡ getD groups p 0
-  unfolding clearedFrom
-  cleared-outside zero p h = refl
-  cleared-outside (suc n) p h =
-      getD-set-other (clearedFrom f at n groups) (at + n) p (unsetIn f (getD groups (at + n) 0)) 0 (off h) ∙ cleared-outside n p (less h)
-    where
-      off : (p < at) ⊎ (at + suc n ≤ p) → p ≢ at + n
-      off (inl a) e = omega arith
-      off (inr a) e = omega arith
-
-      less : (p < at) ⊎ (at + suc n ≤ p) → (p < at) ⊎ (at + n ≤ p)
-      less (inl a) = inl a
-      less (inr a) = inr (omega arith)
-
-  pub cleared-inside : (n p : ℕ) → at ≤ p → p < at + n → at + n ≤ length groups → getD (clearedFrom f at n groups) p 0 ≡ unsetIn f (getD groups p 0)
-  unfolding clearedFrom
-  cleared-inside zero p a b h = absurd (omega arith)
-  cleared-inside (suc n) p a b h = go (ℕ-discrete p (at + n)) (λ c. cleared-inside n p a c (omega arith))
-    where
-      go : Dec (p ≡ at + n) → (p < at + n → getD (clearedFrom f at n groups) p 0 ≡ unsetIn f (getD groups p 0))
-          → getD (set (clearedFrom f at n groups) (at + n) (unsetIn f (getD groups (at + n) 0))) p 0 ≡ unsetIn f (getD groups p 0)
-      go (yes e) ih =
-          ap (λ (i : ℕ). getD (set (clearedFrom f at n groups) (at + n) (unsetIn f (getD groups (at + n) 0))) i 0) e
-          ∙ (getD-set-same (clearedFrom f at n groups) (at + n) (unsetIn f (getD groups (at + n) 0)) 0 (omega (arith, cleared-long n))
-          ∙ ap (λ (i : ℕ). unsetIn f (getD groups i 0)) (sym e))
-      go (no d) ih =
-          getD-set-other (clearedFrom f at n groups) (at + n) p (unsetIn f (getD groups (at + n) 0)) 0 d ∙ ih (omega arith)
-
-  -- a turn of the loop
-  pub record Clearing (n : ℕ) (now : List ℕ) : Type 0 where
-    pub few : n ≤ 8
-    pub long : length now ≡ length groups
-    pub same : now ≡ clearedFrom f at n groups
-
-  pub clearing-start : Clearing 0 groups
-  unfolding clearedFrom
-  clearing-start = record { few = omega arith; long = refl; same = refl }
-
-  pub clearing-next : (n : ℕ) (now after : List ℕ) (place g v : ℕ) → Clearing n now → n < 8 → place ≡ at + n → g ≡ getD now place 0 → v ≡ unsetIn f g
-      → after ≡ set now place v → Clearing (n + 1) after
-  unfolding clearedFrom
-  clearing-next n now after place g v c b p d e a =
-      record {
-        few = omega arith;
-        long = ap length a ∙ (length-set now place v ∙ c .long);
-        same =
-            a ∙ ((λ i. set (c .same i) (p i) (value i))
-            ∙ ap (λ (k : ℕ). clearedFrom f at k groups) (sym (add-one n)));
-      }
-    where
-      value : v ≡ unsetIn f (getD groups (at + n) 0)
-      value = e ∙ ap (unsetIn f) (d ∙ (λ i. getD (c .same i) (p i) 0) ∙ cleared-outside n (at + n) (inr (omega arith)))
-
-  pub clearing-end : (n : ℕ) (now : List ℕ) → Clearing n now → 8 ≤ n → now ≡ clearedFrom f at 8 groups
-  clearing-end n now c h =
-      let all : n ≡ 8 = omega (arith, c .few) in
-      c .same ∙ ap (λ (k : ℕ). clearedFrom f at k groups) all
 
 -- One effective bit, in the form in which the code has it.
 module _ (w : Written) (l i f g : ℕ) (at-frame : f ≡ frameAt (w .frames) (w .omf) i) (at-group : g ≡ getD (w .groups) (placeOf (w .lines) (f / 16) l) 0) where
@@ -146,16 +75,16 @@ module _ (lines f block : ℕ) (groups : List ℕ) (inside : block * 8 + 8 ≤ l
   start = placeOf lines (f / 16) (block * 8)
 
   abbrev after : List ℕ
-  after = clearedFrom f start 8 groups
+  after = rewriteFrom start 8 (unsetIn f) groups
 
   -- a group is one of the eight, or as it was
   group-is : (at : ℕ) → (getD after at 0 ≡ unsetIn f (getD groups at 0)) ⊎ (getD after at 0 ≡ getD groups at 0)
   group-is at = go (decLt at start) (decLt at (start + 8))
     where
       go : Dec (at < start) → Dec (at < start + 8) → (getD after at 0 ≡ unsetIn f (getD groups at 0)) ⊎ (getD after at 0 ≡ getD groups at 0)
-      go (yes a) b = inr (cleared-outside f start groups 8 at (inl a))
-      go (no a) (yes b) = inl (cleared-inside f start groups 8 at (omega arith) b room)
-      go (no a) (no b) = inr (cleared-outside f start groups 8 at (inr (omega arith)))
+      go (yes a) b = inr (from-outside start (unsetIn f) groups 8 at (inl a))
+      go (no a) (yes b) = inl (from-inside start (unsetIn f) groups 8 at (omega arith) b room)
+      go (no a) (no b) = inr (from-outside start (unsetIn f) groups 8 at (inr (omega arith)))
 
   group-tag : (at : ℕ) → (getD after at 0 ≡ unsetIn f (getD groups at 0)) ⊎ (getD after at 0 ≡ getD groups at 0) → tagOf (getD after at 0) ≡ tagOf (getD groups at 0)
   group-tag at (inl e) = ap tagOf e ∙ unset-tag f (getD groups at 0)
@@ -185,19 +114,19 @@ module _ (lines f block : ℕ) (groups : List ℕ) (inside : block * 8 + 8 ≤ l
 
       go : Dec (h % 16 ≡ f % 16) → (getD after (placeOf lines (h / 16) m) 0 ≡ unsetIn f (getD groups (placeOf lines (h / 16) m) 0)) ⊎ (getD after (placeOf lines (h / 16) m) 0 ≡ getD groups (placeOf lines (h / 16) m) 0)
           → bit (getD after (placeOf lines (h / 16) m) 0) (h % 16) ≡ bit (getD groups (placeOf lines (h / 16) m) 0) (h % 16)
-      go (yes e) s = ap (λ (g : ℕ). bit g (h % 16)) (cleared-outside f start groups 8 (placeOf lines (h / 16) m) (outside (far e)))
+      go (yes e) s = ap (λ (g : ℕ). bit g (h % 16)) (from-outside start (unsetIn f) groups 8 (placeOf lines (h / 16) m) (outside (far e)))
       go (no e) (inl s) = ap (λ (g : ℕ). bit g (h % 16)) s ∙ unset-other f (getD groups (placeOf lines (h / 16) m) 0) (h % 16) (omega arith) e
       go (no e) (inr s) = ap (λ (g : ℕ). bit g (h % 16)) s
 
   pub block-cleared : BlockCleared lines f block groups (clearedBlock lines f block groups)
   block-cleared =
       record {
-        long = cleared-long f start groups 8;
-        past = λ m b. cleared-past f start groups 8 m b;
+        long = from-length start (unsetIn f) groups 8;
+        past = λ m b. from-drop start (unsetIn f) groups 8 m b;
         tags = λ at. group-tag at (group-is at);
         old = λ at q b e. group-old at q b e (group-is at);
         other = other-bit;
         own = λ m e.
-            ap (λ (g : ℕ). bit g (f % 16)) (cleared-inside f start groups 8 (placeOf lines (f / 16) m) (omega arith) (omega arith) room)
+            ap (λ (g : ℕ). bit g (f % 16)) (from-inside start (unsetIn f) groups 8 (placeOf lines (f / 16) m) (omega arith) (omega arith) room)
             ∙ unset-gone f (getD groups (placeOf lines (f / 16) m) 0);
       }

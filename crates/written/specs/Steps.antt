@@ -7,7 +7,7 @@ use lib.Dec.{eqb, ltb}
 use lib.ListN.{length, getD, set}
 use Rattle.frames.specs.Circle.{frameAt}
 use Rattle.numbers.specs.Digits.{setAt, unsetAt}
-use Rattle.lists.specs.Lists.{rewrite}
+use Rattle.lists.specs.Lists.{rewrite, rewriteFrom}
 use Rattle.written.specs.Bits.{Written, writtenOf, placeOf, tagged, boundOf, windowOf}
 
 -- The bits of a group that stand.
@@ -39,7 +39,11 @@ pub record Entered (tag kept : ℕ) (before after : List ℕ) : Type 0 where
   pub long : length after ≡ length before
   pub past : (t : ℕ) → tag < t → getD after t 0 ≡ getD before t 0
 
--- "When its tags run out the store sweeps stale bits and starts afresh": every group with the bits that stand, and tag 0.
+-- "When its tags run out the store sweeps stale bits and starts afresh": every group of a working area with the bits that stand, and tag 0,
+abbrev pub sweptArea : Written → (area : ℕ) → List ℕ
+sweptArea w area = rewriteFrom (placeOf (w .lines) area 0) (w .lines) (maskedOf (w .frames) (w .omf) area (w .history)) (w .groups)
+
+-- and every group so.
 unfoldable pub swept : Written → List ℕ
 swept w =
     rewrite (w .frames / 16 * w .lines) (λ at g. maskedOf (w .frames) (w .omf) (at / w .lines) (w .history) g) (w .groups)
@@ -48,14 +52,9 @@ swept w =
 unfoldable pub unsetIn : (frame g : ℕ) → ℕ
 unsetIn f g = tagged (g / 65536) (unsetAt (g % 65536) (f % 16))
 
--- n neighbouring groups so, from a place on.
-unfoldable pub clearedFrom : (frame at n : ℕ) → List ℕ → List ℕ
-clearedFrom f at zero groups = groups
-clearedFrom f at (suc n) groups = set (clearedFrom f at n groups) (at + n) (unsetIn f (getD groups (at + n) 0))
-
 -- A frame's bits in a block's 8 lines.
 abbrev pub clearedBlock : (lines frame block : ℕ) → List ℕ → List ℕ
-clearedBlock lines f block groups = clearedFrom f (placeOf lines (f / 16) (block * 8)) 8 groups
+clearedBlock lines f block groups = rewriteFrom (placeOf lines (f / 16) (block * 8)) 8 (unsetIn f) groups
 
 -- A bound goes down with OMF, never below 0; that no rollback was is no bound.
 unfoldable pub lowerBound : (k bound : ℕ) → ℕ

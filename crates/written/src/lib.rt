@@ -7,9 +7,8 @@ ghost use lib.ListN;
 ghost use lib.ListN.{length, getD};
 ghost use Rattle.rules.specs.Seen.{needs};
 ghost use Rattle.frames.specs.Circle.{Turn, indexOf};
-ghost use Rattle.lists.specs.Lists.{rewrite};
 ghost use Rattle.written.specs.Bits.{writtenAt, AsksWritten, Asks, AsksBlock, AsksSet, Near, placeOf, boundOf, effective, newestFrom, newestRun, newestInArea, downOf, upOf, standsIn, runHas, blockHas, setIn, firstIndex, beforeWrap, afterWrap, cutOf, windowOf};
-ghost use Rattle.written.specs.Steps.{AsksWindow, AsksReset, regrouped, withWritten, Entered, maskedOf, swept, unsetIn, clearedBlock, lowerBound, lowered, RolledBack, blanked};
+ghost use Rattle.written.specs.Steps.{AsksWindow, AsksReset, regrouped, withWritten, Entered, sweptArea, swept, unsetIn, clearedBlock, lowerBound, lowered, RolledBack, blanked};
 
 // What places the lent lists: L, the circle of frames and OMF.
 pub struct Shape {
@@ -339,16 +338,16 @@ fn masked(group: u32, history: &[u16], s: u32, u: u32) -> u32
 
 // Rewrites the groups of a working area with the bits that stand, and tag 0.
 fn sweep_area(groups: &mut [u32], history: &[u16], shape: Shape, area: u32)
-    requires { ⌜ (AsksWindow (shape .frames) (shape .omf) area 0 (shape .frames)) × (256 ≤ length (now history)) ⌝ }
-    ensures { λ _. ⌜ now (groups .exit) ≡ rewrite (length (now (groups .entry))) (λ _ g. maskedOf (shape .frames) (shape .omf) area (now (history .entry)) g) (now (groups .entry)) ⌝ }
+    requires { ⌜ (AsksWritten (writtenAt shape (now groups) (now history))) × (area < shape .frames / 16) ⌝ }
+    ensures { λ _. ⌜ now (groups .exit) ≡ sweptArea (writtenAt shape (now (groups .entry)) (now (history .entry))) area ⌝ }
 {
-    let frames = shape.frames;
-    let omf = shape.omf;
+    let lines = shape.lines;
     let s = first_index(shape, area);
-    let u = numbers::min(16, frames - s);
+    let u = numbers::min(16, shape.frames - s);
     let mut line = 0;
-    while line < groups.len() {
-        groups[line] = masked(groups[line], history, s, u);
+    while line < lines {
+        let group = group_at(groups, shape, area, line);
+        put_group(groups, shape, area, line, masked(group, history, s, u));
         line = line + 1;
     }
 }
@@ -358,14 +357,10 @@ fn sweep(groups: &mut [u32], history: &[u16], shape: Shape)
     requires { ⌜ AsksWritten (writtenAt shape (now groups) (now history)) ⌝ }
     ensures { λ _. ⌜ now (groups .exit) ≡ swept (writtenAt shape (now (groups .entry)) (now (history .entry))) ⌝ }
 {
-    let lines = shape.lines;
-    let frames = shape.frames;
-    let areas = frames / 16;
+    let areas = shape.frames / 16;
     let mut area = 0;
     while area < areas {
-        let first = (area * lines) as usize;
-        let end = first + lines as usize;
-        sweep_area(&mut groups[first..end], history, shape, area);
+        sweep_area(groups, history, shape, area);
         area = area + 1;
     }
 }

@@ -4,18 +4,20 @@ use native.Mathlib.Omega.{arith}
 use borrow.Author.Needs.{needs}
 use Rattle.written.specs.Bits.{placeOf}
 use Rattle.written.proofs.Blanks.{set-near}
-use Rattle.written.proofs.Unsetting.{Clearing, clearing-start, clearing-next, clearing-end}
+use Rattle.written.specs.Steps.{unsetIn}
+use Rattle.lists.proofs.Lists.{RewrittenFrom, from-start, from-next, from-end}
 use Rattle.written.proofs.clear_block.Statement.{statement}
 use Rattle.written.proofs.clear_block.Tie as tie
 
 abbrev Inv-loop : tie.InvT-loop
-Inv-loop groups₀ shape frame block n₀ groups n = Clearing frame (placeOf (shape .lines) (frame / 16) (block * 8)) groups₀ n groups
+Inv-loop groups₀ shape frame block n₀ groups n =
+    RewrittenFrom (placeOf (shape .lines) (frame / 16) (block * 8)) (unsetIn frame) groups₀ 8 n groups
 
 abbrev μ-loop : tie.MeasureT-loop
 μ-loop groups₀ shape frame block n₀ groups n = 8 - n
 
 loop-holds : tie.Need-loop-holds Inv-loop μ-loop
-loop-holds c = clearing-start _ _ _
+loop-holds c = from-start _ _ _ _
 
 mul-line : tie.Need-mul-line Inv-loop μ-loop
 mul-line c = let s : tie.Start Inv-loop μ-loop = search in omega (arith, s .pre .near .line-few)
@@ -50,13 +52,13 @@ loop-again c =
     let g : tie.After-group-at Inv-loop μ-loop = search in
     let u : tie.After-unset Inv-loop μ-loop = search in
     let p : tie.After-put-group Inv-loop μ-loop = search in
-    clearing-next _ _ _ _ _ _ _ _ _ (t .before .loop .inv) (omega (arith, t .loop-test .taken)) (omega arith) (g .group-at .ensures) (u .unset .ensures) (p .put-group .ensures)
+    from-next _ _ _ _ _ _ _ _ _ _ (t .before .loop .inv) (omega (arith, t .loop-test .taken)) (omega arith) (g .group-at .ensures) (u .unset .ensures) (p .put-group .ensures)
 
 same-length : tie.Need-same-length Inv-loop μ-loop
 same-length c = c .before .loop .inv .long
 
 returns : tie.Need-returns Inv-loop μ-loop
-returns c = clearing-end _ _ _ _ _ (c .before .loop .inv) (omega (arith, c .loop-test .left))
+returns c = from-end _ _ _ _ _ _ (c .before .loop .inv) (omega (arith, c .loop-test .left))
 
 pub clear-block-spec : {M : Type 1} → statement M
 clear-block-spec =

@@ -1,21 +1,20 @@
 -- `written::sweep_area` meets its contract. Assumes nothing.
-use Prim.Native.Nat.{_-_, _≤_}
+use Prim.Native.Nat.{_-_}
 use borrow.Author.Needs.{needs}
 use native.Mathlib.Omega.{arith}
-use lib.ListN.{length}
+use Rattle.lists.proofs.Lists.{RewrittenFrom, from-start, from-next, from-end}
+use Rattle.written.specs.Bits.{placeOf}
 use Rattle.written.specs.Steps.{maskedOf}
-use Rattle.lists.proofs.Lists.{Rewritten, rewrite-start, rewrite-more, rewrite-end}
-use Rattle.written.proofs.Sweeping.{masked-told}
+use Rattle.written.proofs.Sweeping.{masked-told, area-near}
 use Rattle.written.proofs.sweep_area.Statement.{statement}
 use Rattle.written.proofs.sweep_area.Tie as tie
 
 abbrev Inv-loop : tie.InvT-loop
-Inv-loop groups₀ history area frames omf s u line₀ groups line =
-    (line ≤ length groups₀) × Rewritten line (λ _ g. maskedOf frames omf area history g) groups₀ groups
+Inv-loop groups₀ history shape area lines s u line₀ groups line =
+    RewrittenFrom (placeOf (shape .lines) area 0) (maskedOf (shape .frames) (shape .omf) area history) groups₀ (shape .lines) line groups
 
 abbrev μ-loop : tie.MeasureT-loop
-μ-loop groups₀ history area frames omf s u line₀ groups line =
-    length groups₀ - line
+μ-loop groups₀ history shape area lines s u line₀ groups line = lines - line
 
 first-index-requires : tie.Need-first-index-requires Inv-loop μ-loop
 first-index-requires c κs = search needs
@@ -27,41 +26,47 @@ min-requires : tie.Need-min-requires Inv-loop μ-loop
 min-requires c κs = search needs
 
 loop-holds : tie.Need-loop-holds Inv-loop μ-loop
-loop-holds c = (omega arith, rewrite-start _ _)
+loop-holds c = from-start _ _ _ _
 
-mul-masked : tie.Need-mul-masked Inv-loop μ-loop
-mul-masked c = omega arith
-
-slice-read-masked : tie.Need-slice-read-masked Inv-loop μ-loop
-slice-read-masked c = omega arith
+group-at-requires : tie.Need-group-at-requires Inv-loop μ-loop
+group-at-requires c κs =
+    let s : tie.Start Inv-loop μ-loop = search in
+    let t : tie.In-loop Inv-loop μ-loop = search in
+    area-near _ _ _ _ (s .pre .0) (s .pre .1) (t .before .loop .inv .long) (t .loop-test .taken)
 
 masked-requires : tie.Need-masked-requires Inv-loop μ-loop
-masked-requires c κs = (omega arith, omega arith)
+masked-requires c κs =
+    let s : tie.Start Inv-loop μ-loop = search in
+    let m : tie.After-min Inv-loop μ-loop = search in (omega (arith, m .min .ensures), s .pre .0 .history-long)
 
-mul-groups : tie.Need-mul-groups Inv-loop μ-loop
-mul-groups c = omega arith
-
-slice-write-groups : tie.Need-slice-write-groups Inv-loop μ-loop
-slice-write-groups c = omega arith
+put-group-requires : tie.Need-put-group-requires Inv-loop μ-loop
+put-group-requires c κs =
+    let s : tie.Start Inv-loop μ-loop = search in
+    let t : tie.In-loop Inv-loop μ-loop = search in
+    area-near _ _ _ _ (s .pre .0) (s .pre .1) (t .before .loop .inv .long) (t .loop-test .taken)
 
 add-line : tie.Need-add-line Inv-loop μ-loop
-add-line c = omega arith
+add-line c = let t : tie.In-loop Inv-loop μ-loop = search in omega (arith, t .loop-test .taken)
 
 loop-less : tie.Need-loop-less Inv-loop μ-loop
-loop-less c = omega arith
+loop-less c = let t : tie.In-loop Inv-loop μ-loop = search in omega (arith, t .loop-test .taken)
 
 loop-again : tie.Need-loop-again Inv-loop μ-loop
-loop-again c = (
-  omega arith,
-  rewrite-more _ (c .before .before .before .loop .inv .1)
-      (masked-told _ _ _ _ _ _ _ _ (c .before .before .before .before .before .first-index .ensures) (c .before .before .before .before .min .ensures) (c .masked .ensures)),
-)
+loop-again c =
+    let t : tie.In-loop Inv-loop μ-loop = search in
+    let f : tie.After-first-index Inv-loop μ-loop = search in
+    let m : tie.After-min Inv-loop μ-loop = search in
+    let g : tie.After-group-at Inv-loop μ-loop = search in
+    let k : tie.After-masked Inv-loop μ-loop = search in
+    let p : tie.After-put-group Inv-loop μ-loop = search in
+    from-next _ _ _ _ _ _ _ _ _ _ (t .before .loop .inv) (t .loop-test .taken) (omega arith) (g .group-at .ensures)
+    (masked-told _ _ _ _ _ _ _ _ (f .first-index .ensures) (m .min .ensures) (k .masked .ensures)) (p .put-group .ensures)
 
 same-length : tie.Need-same-length Inv-loop μ-loop
-same-length c = c .before .loop .inv .1 .long
+same-length c = c .before .loop .inv .long
 
 returns : tie.Need-returns Inv-loop μ-loop
-returns c = rewrite-end _ (c .before .loop .inv .1) (omega arith) (omega arith)
+returns c = from-end _ _ _ _ _ _ (c .before .loop .inv) (c .loop-test .left)
 
 pub sweep-area-spec : {M : Type 1} → statement M
 sweep-area-spec =
@@ -73,11 +78,9 @@ sweep-area-spec =
     sub-min
     min-requires
     loop-holds
-    mul-masked
-    slice-read-masked
+    group-at-requires
     masked-requires
-    mul-groups
-    slice-write-groups
+    put-group-requires
     add-line
     loop-less
     loop-again

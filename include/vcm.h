@@ -18,9 +18,10 @@
  * Every exported function is proved: it ends, it stays inside the lent memory, it is refused exactly for the reasons below (but 13 on
  * storage that CHECK rejects), and a refused call leaves state and lent memory untouched. It asks nothing of the state and of what the
  * lent memory holds. What a caller owes is C's own:
- *   - each pointer is aligned for its type and points to as many elements as its length says; it is never NULL, also for length 0;
+ *   - each pointer is aligned for its type and points to as many elements as its length says; it is never NULL, also for length 0, but
+ *     for an empty list of vcm_write_block;
  *   - the elements, and the state, have been given some value, whatever it is: memory fresh from malloc has none, calloc's has;
- *   - the state, the six pieces and LINE's bytes do not overlap;
+ *   - the state, the six pieces, LINE's bytes and the two lists of a block of writes do not overlap;
  *   - no other thread touches them during a call.
  */
 #ifndef VCM_H
@@ -30,7 +31,7 @@
 #include <stdint.h>
 
 /* CHANGELOG.md says what each version brought. */
-#define VCM_VERSION "0.2.0"
+#define VCM_VERSION "0.3.0"
 
 /* A program does not compile where a struct has another size than in libvcm.a. C99 has no assertion for that, but there too an array of
  * negative size is an error. */
@@ -77,6 +78,7 @@ extern "C" {
 #define VCM_REFUSAL_MARKS 11    /* k is 0 or more than the marked states, which are one less than the live frames */
 #define VCM_REFUSAL_FRAMES 12   /* MARK finds all F frames live */
 #define VCM_REFUSAL_PAGES 13    /* WRITE's page in the current frame is not needed yet, and P pages are needed already */
+#define VCM_REFUSAL_ANSWERS 14  /* the answer list is shorter than the write list (vcm_write_block, tested after 6) */
 
 /* The names of before, for programs that use them. */
 #define VCM_LIMITS VCM_REFUSAL_SETTINGS
@@ -128,6 +130,13 @@ typedef struct vcm_state {
     vcm_cache cache;         /* 32 */
 } vcm_state;
 
+/* One WRITE of a block of writes. Size 12, alignment 4. */
+typedef struct vcm_item {
+    uint32_t width;   /* 0 */
+    uint32_t address; /* 4 */
+    uint32_t value;   /* 8 */
+} vcm_item;
+
 /* What a store needs of each lent piece, in BYTES. Refused, every size is 0. Size 56, alignment 8. */
 typedef struct vcm_need {
     uint32_t refusal; /*  0 */
@@ -169,6 +178,7 @@ VCM_HAS_SIZE(size_t, 8);
 VCM_HAS_SIZE(vcm_cache, 752);
 VCM_HAS_SIZE(vcm_registers, 32);
 VCM_HAS_SIZE(vcm_state, 784);
+VCM_HAS_SIZE(vcm_item, 12);
 VCM_HAS_SIZE(vcm_need, 56);
 VCM_HAS_SIZE(vcm_reading, 16);
 VCM_HAS_SIZE(vcm_counted, 12);
@@ -262,6 +272,13 @@ VCM_MUST_CHECK static inline uint32_t vcm_reset(vcm_state *state, const vcm_memo
 VCM_MUST_CHECK static inline uint32_t vcm_write(vcm_state *state, const vcm_memory *memory, uint32_t width,
                                                 uint32_t address, uint32_t value);
 
+/* A block of writes: the items in order, each just as a vcm_write of its own. answers[i] becomes the refusal of items[i] or 0: 7, 8, 9, 10 or
+ * 13, where 13 is decided anew for each. A refused item changes nothing and the later ones are still tried, so that 0 says that all were
+ * tried; whether each was accepted is for the answers to say. Answers past the last item stay as they are. Refused as a whole, nothing is
+ * written and the answers stay. The lengths are of items and of answers; an empty list may be NULL. Refused: 5, 6, 14. */
+VCM_MUST_CHECK static inline uint32_t vcm_write_block(vcm_state *state, const vcm_memory *memory, const vcm_item *items,
+                                                      size_t items_len, uint32_t *answers, size_t answers_len);
+
 /* READ: the value and its origin. The state's cache has the line afterwards. Refused: 5, 6, 7, 8, 9. */
 VCM_MUST_CHECK static inline vcm_reading vcm_read(vcm_state *state, const vcm_memory *memory, uint32_t width, uint32_t address);
 
@@ -330,6 +347,13 @@ vcm_step vcm_raw_write(vcm_registers registers, uint32_t held[32], uint16_t orig
                        uint8_t last[16], const uint8_t *archive, size_t archive_len, uint8_t *pool, size_t pool_len,
                        uint32_t *groups, size_t groups_len, uint16_t *table, size_t table_len, uint32_t *owners, size_t owners_len,
                        const uint16_t *history, size_t history_len, uint32_t width, uint32_t address, uint32_t value);
+/* The items as numbers: width, address and value of one after the other. items_len is three times their count; one or two numbers behind the
+ * last item are none. */
+vcm_step vcm_raw_write_block(vcm_registers registers, uint32_t held[32], uint16_t origins[32], uint8_t valid[32], uint8_t bytes[512],
+                             uint8_t last[16], const uint8_t *archive, size_t archive_len, uint8_t *pool, size_t pool_len,
+                             uint32_t *groups, size_t groups_len, uint16_t *table, size_t table_len, uint32_t *owners,
+                             size_t owners_len, const uint16_t *history, size_t history_len, const uint32_t *items,
+                             size_t items_len, uint32_t *answers, size_t answers_len);
 vcm_reading vcm_raw_read(vcm_registers registers, uint32_t held[32], uint16_t origins[32], uint8_t valid[32], uint8_t bytes[512],
                          uint8_t last[16], const uint8_t *archive, size_t archive_len, const uint8_t *pool, size_t pool_len,
                          const uint32_t *groups, size_t groups_len, const uint16_t *table, size_t table_len, const uint32_t *owners,
@@ -398,6 +422,8 @@ static inline const char *vcm_refusal_text(uint32_t refusal) {
         return "no frame is left: advance, or roll back";
     case VCM_REFUSAL_PAGES:
         return "no page is left: advance, or roll back";
+    case VCM_REFUSAL_ANSWERS:
+        return "the answer list is shorter than the write list: lend an answer for each write";
     default:
         return "unknown";
     }
@@ -445,6 +471,18 @@ static inline uint32_t vcm_reset(vcm_state *state, const vcm_memory *memory, uin
 
 static inline uint32_t vcm_write(vcm_state *state, const vcm_memory *memory, uint32_t width, uint32_t address, uint32_t value) {
     vcm_step r = vcm_raw_write(state->registers, VCM_CACHE_OF(state), VCM_LENT(memory), width, address, value);
+    state->registers = r.registers;
+    return r.refusal;
+}
+
+/* An item is three uint32_t without a gap, by its size, so that a list of them is a list of numbers: each is looked at as what it is, a
+ * uint32_t, which C's aliasing rule allows. */
+static inline uint32_t vcm_write_block(vcm_state *state, const vcm_memory *memory, const vcm_item *items, size_t items_len,
+                                       uint32_t *answers, size_t answers_len) {
+    uint32_t nothing = 0; /* where an empty list lies: aligned, and not NULL */
+    const uint32_t *numbers = items_len == 0 ? &nothing : (const uint32_t *)(const void *)items;
+    vcm_step r = vcm_raw_write_block(state->registers, VCM_CACHE_OF(state), VCM_LENT(memory), numbers, 3 * items_len,
+                                     answers_len == 0 ? &nothing : answers, answers_len);
     state->registers = r.registers;
     return r.refusal;
 }

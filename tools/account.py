@@ -2,8 +2,8 @@
 """The account of rust/account: reads callgrind's counts from a folder and prints where the instructions went.
 
 The folder has fine.out and tight.out (short replays of these lists on ours), ours.out and chip-rust.out (each call by itself), for each of the two PEER
-also PEER-64.out and PEER-4096.out (calls with a full pool of so many pages), runner.out (the runner on the first lines of the long session), and beside
-each a .txt with the calls or lines made.
+also PEER-64.out and PEER-4096.out (calls with a full pool of so many pages), block.out (the writes of the list block, in blocks and singly), runner.out (the
+runner on the first lines of the long session), and beside each a .txt with the calls or lines made.
 """
 import re
 import sys
@@ -122,6 +122,13 @@ def full(folder):
         print(f"{' '.join(parts)}  {words}")
 
 
+def block(folder):
+    cost = costs(folder, "block")
+    print("instructions for one write of the list `block`, ours, the same writes in blocks of 64 and singly (L 4096, F 64, P 2048)")
+    print(f"{'in a block':>10} {'single':>10} {'fewer':>10}")
+    print(f"{cost['block']:10.1f} {cost['single']:10.1f} {cost['single'] - cost['block']:10.1f}")
+
+
 def runner(folder):
     own, _, _ = counts(folder / "runner.out")
     lines = numbers(folder / "runner.txt")["lines"]
@@ -138,6 +145,8 @@ def main():
     cases(folder)
     print()
     full(folder)
+    print()
+    block(folder)
     print()
     runner(folder)
 

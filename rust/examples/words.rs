@@ -2,7 +2,7 @@
 use vcm::Refusal;
 
 fn main() {
-    for number in 4..=13 {
+    for number in 4..=14 {
         println!("{}", Refusal::from_number(number));
     }
 }

@@ -57,6 +57,58 @@ pub struct State {
     pub cache: Cache,
 }
 
+/// One WRITE of a block of writes, as [`Store::write_block`](crate::Store::write_block),
+/// [`Store::write_all`](crate::Store::write_all) and [`calls::write_block`](crate::calls::write_block) take them.
+///
+/// ```
+/// use vcm::Item;
+///
+/// let item = Item { width: 2, address: 16, value: 7 };
+/// assert_eq!(item, Item::u16(16, 7));
+/// ```
+#[repr(C)]
+#[derive(Clone, Copy, Debug, PartialEq, Eq, Hash)]
+pub struct Item {
+    /// 1, 2 or 4 bytes.
+    pub width: u32,
+    /// A multiple of the width.
+    pub address: u32,
+    /// The value, written most significant byte first.
+    pub value: u32,
+}
+
+impl Item {
+    /// A WRITE of 1 byte.
+    #[must_use]
+    pub const fn u8(address: u32, value: u8) -> Item {
+        Item {
+            width: 1,
+            address,
+            value: value as u32,
+        }
+    }
+
+    /// A WRITE of 2 bytes.
+    #[must_use]
+    pub const fn u16(address: u32, value: u16) -> Item {
+        Item {
+            width: 2,
+            address,
+            value: value as u32,
+        }
+    }
+
+    /// A WRITE of 4 bytes.
+    #[must_use]
+    pub const fn u32(address: u32, value: u32) -> Item {
+        Item {
+            width: 4,
+            address,
+            value,
+        }
+    }
+}
+
 /// How many bytes of each piece of memory a store needs. Where `refusal` is not 0, every size is 0.
 #[repr(C)]
 #[derive(Clone, Copy, Debug, PartialEq, Eq)]
@@ -139,6 +191,7 @@ const _: () = {
     assert!(size_of::<Cache>() == 752 && align_of::<Cache>() == 4);
     assert!(size_of::<Registers>() == 32 && align_of::<Registers>() == 4);
     assert!(size_of::<State>() == 784 && align_of::<State>() == 4);
+    assert!(size_of::<Item>() == 12 && align_of::<Item>() == 4);
     assert!(size_of::<Need>() == 56 && align_of::<Need>() == 8);
     assert!(size_of::<Outcome>() == 788 && align_of::<Outcome>() == 4);
     assert!(size_of::<Step>() == 36 && align_of::<Step>() == 4);
@@ -201,6 +254,13 @@ const _: () = {
         refusal: 14,
     };
     assert!(at(&step, 0) == 1 && at(&step, 32) == 14);
+
+    let item = Item {
+        width: 1,
+        address: 2,
+        value: 3,
+    };
+    assert!(at(&item, 0) == 1 && at(&item, 4) == 2 && at(&item, 8) == 3);
 
     let need = Need {
         refusal: 1,
@@ -285,6 +345,32 @@ extern "C" {
         width: u32,
         address: u32,
         value: u32,
+    ) -> Step;
+
+    /// The items as numbers, three each: their count is a third of `items_len`.
+    pub fn vcm_raw_write_block(
+        registers: Registers,
+        held: *mut [u32; 32],
+        origins: *mut [u16; 32],
+        valid: *mut [u8; 32],
+        bytes: *mut [u8; 512],
+        last: *mut [u8; 16],
+        archive: *const u8,
+        archive_len: usize,
+        pool: *mut u8,
+        pool_len: usize,
+        groups: *mut u32,
+        groups_len: usize,
+        table: *mut u16,
+        table_len: usize,
+        owners: *mut u32,
+        owners_len: usize,
+        history: *const u16,
+        history_len: usize,
+        items: *const u32,
+        items_len: usize,
+        answers: *mut u32,
+        answers_len: usize,
     ) -> Step;
 
     pub fn vcm_raw_read(

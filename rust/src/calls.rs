@@ -36,7 +36,7 @@
 //! assert_eq!(reading.value, 1988);
 //! # Ok::<(), Refusal>(())
 //! ```
-use crate::border::{self, Counted, Need, Reading, State, Step, Verdict};
+use crate::border::{self, Counted, Item, Need, Reading, State, Step, Verdict};
 use crate::Refusal;
 
 /// The memory lent to a call that may write it. A piece may be longer than the need; what lies past the need is not touched.
@@ -189,6 +189,58 @@ pub fn write(state: &mut State, lent: &mut Lent, width: u32, address: u32, value
             width,
             address,
             value
+        )
+    };
+    step(state, after)
+}
+
+/// A block of writes: the items in order, each just as a [`write()`] of its own, and the refusal or 0 of each in its place of `answers`. A
+/// refused item changes nothing, and the later ones are still tried. It writes what [`write()`] writes and the answers, of which those past
+/// the last item stay as they are, and gives the refusal of the whole block or 0: 5, 6, and 14 where there are fewer answers than items.
+/// Refused, it writes nothing.
+///
+/// ```
+/// # use vcm::calls::{self, accepted, Lent};
+/// # use vcm::{Item, Refusal};
+/// # let mut lent = Lent {
+/// #     archive: &mut [0; 256],
+/// #     pool: &mut [0; 128],
+/// #     groups: &mut [0; 16],
+/// #     table: &mut [0; 32],
+/// #     owners: &mut [0; 1],
+/// #     history: &mut [0; 256],
+/// # };
+/// # let mut state = calls::blank();
+/// # accepted(calls::reset(&mut state, &mut lent, 16, 16, 1))?; // one page
+/// let items = [Item::u32(0, 1988), Item::u32(128, 7), Item::u8(127, 255)];
+/// let mut answers = [0; 3];
+/// accepted(calls::write_block(&mut state, &mut lent, &items, &mut answers))?;
+/// assert_eq!(answers, [0, 13, 0]);
+/// assert_eq!(calls::write_block(&mut state, &mut lent, &items, &mut answers[1..]), 14);
+/// # Ok::<(), Refusal>(())
+/// ```
+#[inline]
+#[must_use]
+pub fn write_block(state: &mut State, lent: &mut Lent, items: &[Item], answers: &mut [u32]) -> u32 {
+    let c = &mut state.cache;
+    // SAFETY: any state and any memory is allowed; only exclusive slices are passed as `*mut`. An item is three numbers without a gap, and
+    // a slice has at most isize::MAX bytes, so that the count of the numbers is right.
+    let after = unsafe {
+        call!(
+            vcm_raw_write_block(
+                state.registers,
+                &mut c.held,
+                &mut c.origins,
+                &mut c.valid,
+                &mut c.bytes,
+                &mut c.last
+            ),
+            lent,
+            as_mut_ptr,
+            items.as_ptr().cast::<u32>(),
+            3 * items.len(),
+            answers.as_mut_ptr(),
+            answers.len()
         )
     };
     step(state, after)

@@ -6,6 +6,7 @@
 //! |---|---|
 //! | [`Store`] | a store that owns its memory: what most programs want |
 //! | [`Trial`] | a mark that is rolled back when it is dropped, unless it is kept |
+//! | [`Store::write_block`], [`Store::write_all`] | many writes in one call, a list of [`Item`] |
 //! | [`Store::save`], [`Store::load`] | a whole store as bytes |
 //! | [`Settings`] | how many lines, frames and pages a store has |
 //! | [`Refusal`] | why a call was turned down, in words too |
@@ -13,8 +14,8 @@
 //!
 //! # Features
 //!
-//! The crate is `no_std`. `alloc` has what owns memory ([`Store`], [`Trial`] and [`LoadError`]); `std`, the default, has `alloc` and makes
-//! [`Refusal`] and [`LoadError`] a `std::error::Error`. Everything else stands without either.
+//! The crate is `no_std`. `alloc` has what owns memory ([`Store`], [`Trial`], and their errors [`LoadError`] and [`FirstRefusal`]); `std`, the
+//! default, has `alloc` and makes [`Refusal`] and these a `std::error::Error`. Everything else stands without either.
 //!
 //! # For build scripts
 //!
@@ -41,9 +42,11 @@ mod settings;
 mod store;
 #[cfg(feature = "alloc")]
 mod trial;
+#[cfg(feature = "alloc")]
+mod write_block;
 
 pub use answer::{Counts, Origin, Reading};
-pub use border::{Cache, Registers, State};
+pub use border::{Cache, Item, Registers, State};
 pub use refusal::Refusal;
 #[cfg(feature = "alloc")]
 pub use saved::LoadError;
@@ -52,6 +55,8 @@ pub use settings::Settings;
 pub use store::Store;
 #[cfg(feature = "alloc")]
 pub use trial::Trial;
+#[cfg(feature = "alloc")]
+pub use write_block::FirstRefusal;
 
 /// The library's answers in its own numbers, as [`calls`] gives them.
 pub mod numbers {

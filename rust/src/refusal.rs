@@ -47,6 +47,8 @@ pub enum Refusal {
     /// 13: WRITE's page in the current frame is not needed yet and P pages are needed already. ADVANCE or ROLLBACK may free some; where a
     /// single frame is live, MARK comes first.
     Pages,
+    /// 14: the answer list of a block of writes is shorter than its list of items.
+    Answers,
     /// A number that this crate does not know: the library linked is not the one that the crate was written for.
     Unknown(u32),
 }
@@ -66,6 +68,7 @@ impl Refusal {
             11 => Refusal::Marks,
             12 => Refusal::Frames,
             13 => Refusal::Pages,
+            14 => Refusal::Answers,
             other => Refusal::Unknown(other),
         }
     }
@@ -84,6 +87,7 @@ impl Refusal {
             Refusal::Marks => 11,
             Refusal::Frames => 12,
             Refusal::Pages => 13,
+            Refusal::Answers => 14,
             Refusal::Unknown(number) => number,
         }
     }
@@ -104,6 +108,7 @@ impl Refusal {
             Refusal::Marks => "k is 0 or more than the marks there are, which are one less than the live frames: ask COUNTS",
             Refusal::Frames => "no frame is left: advance, or roll back",
             Refusal::Pages => "no page is left: advance, or roll back",
+            Refusal::Answers => "the answer list is shorter than the write list: lend an answer for each write",
             Refusal::Unknown(_) => "a number that this crate does not know: link the library that it came with",
         }
     }
@@ -120,6 +125,7 @@ impl Refusal {
             Refusal::Marks => "Marks",
             Refusal::Frames => "Frames",
             Refusal::Pages => "Pages",
+            Refusal::Answers => "Answers",
             Refusal::Unknown(_) => "Unknown",
         }
     }

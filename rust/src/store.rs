@@ -50,7 +50,7 @@ impl Memory {
     }
 
     #[inline]
-    fn lent(&mut self) -> Lent<'_> {
+    pub(crate) fn lent(&mut self) -> Lent<'_> {
         Lent {
             archive: &mut self.archive,
             pool: &mut self.pool,

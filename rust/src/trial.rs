@@ -1,5 +1,5 @@
 //! A mark that rolls itself back.
-use crate::{Counts, Reading, Refusal, Store};
+use crate::{Counts, FirstRefusal, Item, Reading, Refusal, Store};
 use core::mem;
 
 /// A mark of a store, set by [`Store::trial`], that is rolled back when this guard is dropped, unless it is kept.
@@ -141,6 +141,42 @@ impl Trial<'_> {
     #[inline]
     pub fn write(&mut self, width: u32, address: u32, value: u32) -> Result<(), Refusal> {
         self.store.write(width, address, value)
+    }
+
+    /// [`Store::write_block`].
+    ///
+    /// # Errors
+    /// Those of [`Store::write_block`].
+    pub fn write_block(
+        &mut self,
+        items: &[Item],
+        answers: &mut [Result<(), Refusal>],
+    ) -> Result<(), Refusal> {
+        self.store.write_block(items, answers)
+    }
+
+    /// [`Store::write_all`]. Writes that are to be there all or not at all:
+    ///
+    /// ```
+    /// use vcm::{Item, Refusal, Settings, Store};
+    ///
+    /// fn place(store: &mut Store, day: &[Item]) -> Result<(), Refusal> {
+    ///     let mut trial = store.trial()?;
+    ///     trial.write_all(day)?;
+    ///     trial.keep();
+    ///     Ok(())
+    /// }
+    ///
+    /// let mut store = Store::new(Settings { lines: 64, frames: 16, pages: 32 })?;
+    /// assert_eq!(place(&mut store, &[Item::u8(0, 1), Item::u8(1024, 1)]), Err(Refusal::Range));
+    /// assert_eq!(store.read_u8(0)?, 0); // taken back
+    /// # Ok::<(), Refusal>(())
+    /// ```
+    ///
+    /// # Errors
+    /// Those of [`Store::write_all`].
+    pub fn write_all(&mut self, items: &[Item]) -> Result<(), FirstRefusal> {
+        self.store.write_all(items)
     }
 
     /// [`Store::read`].

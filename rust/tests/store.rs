@@ -163,7 +163,7 @@ fn refusals_have_their_numbers_and_words() {
     for number in 0..100 {
         let refusal = Refusal::from_number(number);
         assert_eq!(refusal.number(), number);
-        let is_known = (4..=13).contains(&number);
+        let is_known = (4..=14).contains(&number);
         assert_eq!(matches!(refusal, Refusal::Unknown(_)), !is_known);
         assert!(refusal.words().len() > 20);
         let words = refusal.to_string();

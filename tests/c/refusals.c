@@ -6,6 +6,7 @@ static vcm_state state;
 static vcm_memory memory;
 
 static void by_calls(void) {
+    static const vcm_item item = {1, 0, 255};
     uint8_t bytes[16];
     state = vcm_blank();
     memory = vcm_parts(&block, sizeof block, 8, 16, 1);
@@ -25,6 +26,7 @@ static void by_calls(void) {
     expect(vcm_write(&state, &memory, 1, 0, 255) == VCM_OK);
     expect(vcm_mark(&state, &memory) == VCM_OK);
     expect(vcm_write(&state, &memory, 1, 0, 255) == VCM_REFUSAL_PAGES);
+    expect(vcm_write_block(&state, &memory, &item, 1, NULL, 0) == VCM_REFUSAL_ANSWERS);
     for (int i = 2; i < 16; i++) {
         expect(vcm_mark(&state, &memory) == VCM_OK);
     }
@@ -45,6 +47,7 @@ static void by_number(void) {
         expect(now[i] == i + 4);
         expect(before[i] == i + 4);
     }
+    expect(VCM_REFUSAL_ANSWERS == 14);
 }
 
 /* A word that each text must have: that each number has its own. */
@@ -52,10 +55,10 @@ static void by_words(void) {
     static const char *const words[] = {"accepted",   "80 bytes",          "no record", "before the first", "L is a multiple of 8",
                                         "reset it",   "memory is shorter", "width",     "multiple of the width", "past the end",
                                         "more bytes", "live frames",       "no frame is left: advance, or roll back",
-                                        "no page is left: advance, or roll back"};
+                                        "no page is left: advance, or roll back", "answer list is shorter"};
     enum { WORDS = (int)(sizeof words / sizeof *words) };
-    expect(WORDS == 14);
-    for (uint32_t n = 0; n < 14; n++) {
+    expect(WORDS == 15);
+    for (uint32_t n = 0; n < 15; n++) {
         expect(strstr(vcm_refusal_text(n), words[n]) != NULL);
         for (uint32_t other = 0; other < n; other++) {
             expect(strcmp(vcm_refusal_text(n), vcm_refusal_text(other)) != 0);
@@ -64,7 +67,7 @@ static void by_words(void) {
             expect(*c >= ' ' && *c <= '~');
         }
     }
-    expect(strcmp(vcm_refusal_text(14), "unknown") == 0);
+    expect(strcmp(vcm_refusal_text(15), "unknown") == 0);
     expect(strcmp(vcm_refusal_text(256 + 4), "unknown") == 0);
     expect(strcmp(vcm_refusal_text(UINT32_MAX), "unknown") == 0);
 }

@@ -15,7 +15,8 @@ ghost use Rattle.written.specs.Bits.{writtenAt};
 ghost use Rattle.versions.specs.Newest.{originOf, newestOf, AsksNewest};
 ghost use Rattle.cache.specs.Entries.{cacheOf};
 ghost use Rattle.cache.specs.Steps.{placedIn};
-ghost use Rattle.storage.specs.Storage.{memoryOf, shapeAt, stateOf, storageOf};
+ghost use Rattle.storage.specs.Storage.{memoryOf, lengthsIn, registersOf, shapeAt, stateOf, storageOf};
+ghost use Rattle.storage.specs.Admit.{admitted};
 ghost use Rattle.storage.specs.Steps.{Put, AsksWrite};
 ghost use Rattle.storage.specs.Contracts.{Writes, Reads, Looks};
 
@@ -87,8 +88,8 @@ fn put_value(
     cache::place(held, origins, valid, bytes, last, line, frame, content);
 }
 
-// WRITE: to the line's page in CMF, which is the one that its block has there or the next of the ring.
-pub fn write(
+// WRITE past 5 and 6: to the line's page in CMF, which is the one that its block has there or the next of the ring.
+pub fn write_admitted(
     mut registers: Registers,
     held: &mut [u32; 32],
     origins: &mut [u16; 32],
@@ -105,13 +106,13 @@ pub fn write(
     address: u32,
     value: u32,
 ) -> Step
+    requires { ⌜ admitted (registersOf registers) (lengthsIn (memoryOf (now archive) (now pool) (now groups) (now table) (now owners) (now history))) 0 ≡ 0 ⌝ }
     ensures { λ r. ⌜ Writes
         (storageOf (stateOf registers (cacheOf (now (held .entry)) (now (origins .entry)) (now (valid .entry)) (now (bytes .entry)) (now (last .entry)))) (now (archive .entry)) (now (pool .entry)) (now (groups .entry)) (now (table .entry)) (now (owners .entry)) (now (history .entry)))
         width address value (r .refusal)
         (storageOf (stateOf (r .registers) (cacheOf (now (held .exit)) (now (origins .exit)) (now (valid .exit)) (now (bytes .exit)) (now (last .exit)))) (now (archive .entry)) (now (pool .exit)) (now (groups .exit)) (now (table .exit)) (now (owners .exit)) (now (history .entry))) ⌝ }
 {
-    let lengths = storage::measure(archive, pool, groups, table, owners, history);
-    let refusal = storage::admit_write(registers, lengths, width, address, value);
+    let refusal = storage::write_refusal(registers, width, address, value);
     if refusal != 0 {
         return Step { registers, refusal };
     }
@@ -151,6 +152,53 @@ pub fn write(
             refusal: 13,
         },
     }
+}
+
+// WRITE.
+pub fn write(
+    registers: Registers,
+    held: &mut [u32; 32],
+    origins: &mut [u16; 32],
+    valid: &mut [u8; 32],
+    bytes: &mut [u8; 512],
+    last: &mut [u8; 16],
+    archive: &[u8],
+    pool: &mut [u8],
+    groups: &mut [u32],
+    table: &mut [u16],
+    owners: &mut [u32],
+    history: &[u16],
+    width: u32,
+    address: u32,
+    value: u32,
+) -> Step
+    ensures { λ r. ⌜ Writes
+        (storageOf (stateOf registers (cacheOf (now (held .entry)) (now (origins .entry)) (now (valid .entry)) (now (bytes .entry)) (now (last .entry)))) (now (archive .entry)) (now (pool .entry)) (now (groups .entry)) (now (table .entry)) (now (owners .entry)) (now (history .entry)))
+        width address value (r .refusal)
+        (storageOf (stateOf (r .registers) (cacheOf (now (held .exit)) (now (origins .exit)) (now (valid .exit)) (now (bytes .exit)) (now (last .exit)))) (now (archive .entry)) (now (pool .exit)) (now (groups .exit)) (now (table .exit)) (now (owners .exit)) (now (history .entry))) ⌝ }
+{
+    let lengths = storage::measure(archive, pool, groups, table, owners, history);
+    let refusal = storage::admit(registers, lengths);
+    if refusal != 0 {
+        return Step { registers, refusal };
+    }
+    write_admitted(
+        registers,
+        held,
+        origins,
+        valid,
+        bytes,
+        last,
+        archive,
+        pool,
+        groups,
+        table,
+        owners,
+        history,
+        width,
+        address,
+        value,
+    )
 }
 
 // Finds the newest version of a line that the cache does not hold, and puts it there.

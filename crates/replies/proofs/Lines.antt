@@ -15,7 +15,7 @@ use Rattle.text.proofs.Putting.{puts-length, puts-then, decimal-few}
 use Rattle.rules.specs.Call.{Origin, Answer, numberIn}
 use Rattle.rules.specs.Call.Place.{in-frame, in-archive}
 use Rattle.rules.specs.Call.Origin.{from-cache, from}
-use Rattle.rules.specs.Call.Answer.{outcome, reading, lending, counting, verdict}
+use Rattle.rules.specs.Call.Answer.{outcome, reading, lending, counting, verdict, filling}
 use Rattle.replies.specs.declared.Shown.{Shown}
 use Rattle.replies.specs.declared.Shown.the-variants.{Nothing, Read, Counts}
 use Rattle.replies.specs.Answers.{originText, valuesText, okLine, noLine, answerLine, endLine, longest, longestEnd}
@@ -38,6 +38,7 @@ values-few (reading n value origin) = simp length-append (omega (arith, decimal-
 values-few (lending line) = omega arith
 values-few (counting n live pages) = simp length-append (omega (arith, decimal-few live, decimal-few pages))
 values-few (verdict n says) = omega arith
+values-few (filling n left) = omega arith
 
 pub values-ends : {before after : Text} {at behind : ℕ} (a : Answer) → Puts before at (valuesText a) after behind → behind ≤ at + 42
 values-ends a p = omega (arith, values-few a)

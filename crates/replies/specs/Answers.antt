@@ -8,7 +8,7 @@ use Rattle.text.specs.Numbers.{decimal}
 use Rattle.rules.specs.Call.{Origin, Answer, numberIn}
 use Rattle.rules.specs.Call.Place.{in-frame, in-archive}
 use Rattle.rules.specs.Call.Origin.{from-cache, from}
-use Rattle.rules.specs.Call.Answer.{outcome, reading, lending, counting, verdict}
+use Rattle.rules.specs.Call.Answer.{outcome, reading, lending, counting, verdict, filling}
 
 -- "origin (`c` cache, `a` archive, or marks back)".
 unfoldable pub originText : Origin → Text
@@ -17,13 +17,14 @@ originText (from (in-frame back)) = decimal back
 originText (from in-archive) = 97 ∷ []
 
 -- "After `ok`, a read gives value and origin ..; counts gives live frames and pages"; "fields are parted by one tab". (No record asks for
--- a LINE or a CHECK.)
+-- a LINE, a CHECK or a block of writes.)
 unfoldable pub valuesText : Answer → Text
 valuesText (outcome n) = []
 valuesText (reading n value origin) = (9 ∷ decimal value) ++ (9 ∷ originText origin)
 valuesText (lending line) = []
 valuesText (counting n live pages) = (9 ∷ decimal live) ++ (9 ∷ decimal pages)
 valuesText (verdict n says) = []
+valuesText (filling n left) = []
 
 -- "Output: `ok`, or `no` and the number above; .. every line ends with a line feed."
 unfoldable pub okLine : Answer → Text

@@ -9,7 +9,7 @@ use Rattle.rules.specs.Line.{lineOf}
 use Rattle.rules.specs.Call.{Act, Call, Place, Origin, Answer}
 use Rattle.rules.specs.Call.Place.{in-archive}
 use Rattle.rules.specs.Call.Origin.{from-cache, from}
-use Rattle.rules.specs.Call.Answer.{outcome, reading, lending, counting, verdict}
+use Rattle.rules.specs.Call.Answer.{outcome, reading, lending, counting, verdict, filling}
 use Rattle.rules.specs.Call.Act.{READ}
 use Rattle.rules.specs.Call.Call.{ON}
 use Rattle.rules.specs.Seen.{Seen, accepted}
@@ -57,6 +57,7 @@ originNamed (reading n v o) = o
 originNamed (lending x) = from in-archive
 originNamed (counting n live pages) = from in-archive
 originNamed (verdict n b) = from in-archive
+originNamed (filling n left) = from in-archive
 
 pub cached-only : (p : Plain) (x : Cache) (w a : ℕ) → originNamed (accepted (plainSeen p) (holds x) (READ w a)) ≡ from-cache
     → holds x (lineOf a) ≡ true

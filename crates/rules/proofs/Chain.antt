@@ -7,7 +7,7 @@ use borrow.Author.Tests.{ltb-true, leb-true, eqb-true}
 use lib.Dec.{ltb, leb, eqb}
 use Rattle.rules.specs.Settings.{Settings, enough}
 use Rattle.rules.specs.Call.{Act, Call}
-use Rattle.rules.specs.Call.Call.{RESET, CHECK, ON}
+use Rattle.rules.specs.Call.Call.{RESET, CHECK, ON, WRITE-BLOCK}
 use Rattle.rules.specs.Refusal.{refusal, unless, Facts, isWidth, stateRefusal, placeRefusal, writeRefusal, markedRefusal}
 use Rattle.rules.proofs.Tests.{both-true}
 
@@ -32,6 +32,20 @@ passed false n rest h e = absurd (omega arith)
 pub state-passed : (g : Facts) (rest : ℕ) → stateRefusal g rest ≡ 0 → rest ≡ 0
 unfolding stateRefusal
 state-passed g rest e = passed (enough (g .settings) (g .lengths)) 6 rest (omega arith) (passed (g .fits) 5 _ (omega arith) e .1) .1
+
+-- whoever passes 5 and 6 goes by the rest of its chain
+pub state-lets-in : (g : Facts) (rest : ℕ) → stateRefusal g 0 ≡ 0 → stateRefusal g rest ≡ rest
+unfolding stateRefusal
+state-lets-in g rest e =
+    let p = passed (g .fits) 5 _ (omega arith) e in
+    let q = passed (enough (g .settings) (g .lengths)) 6 0 (omega arith) (p .1) in
+    passes (g .fits) 5 _ rest (p .0) (passes (enough (g .settings) (g .lengths)) 6 rest rest (q .0) refl)
+
+-- a number that is neither the test's nor the rest's
+pub unless-not : (k : ℕ) (b : Bool) (n rest : ℕ) → (n ≡ k → ⊥) → (rest ≡ k → ⊥) → unless b n rest ≡ k → ⊥
+unfolding unless
+unless-not k true n rest p q = q
+unless-not k false n rest p q = p
 
 pub marked-passed : (live k : ℕ) → markedRefusal live k ≡ 0 → (0 < k) × (k ≤ live - 1)
 unfolding markedRefusal
@@ -70,9 +84,11 @@ abbrev pub TakesState : Call → Type 0
 TakesState (RESET s) = ⊥
 TakesState CHECK = Unit {0}
 TakesState (ON a) = Unit {0}
+TakesState (WRITE-BLOCK items list) = Unit {0}
 
 pub unfit-gets-5 : (g : Facts) (lacking : Act → Bool) (c : Call) → TakesState c → g .fits ≡ false → refusal g lacking c ≡ 5
 unfolding refusal
 unfit-gets-5 g lacking (RESET s) t e = absurd t
 unfit-gets-5 g lacking CHECK t e = unfit g _ e
 unfit-gets-5 g lacking (ON a) t e = unfit g _ e
+unfit-gets-5 g lacking (WRITE-BLOCK items list) t e = unfit g _ e

@@ -1,4 +1,4 @@
--- An instance: the storage is Figure 2 with Figure 3 itself, beside the lent lengths. All ten calls keep their promise on every such
+-- An instance: the storage is Figure 2 with Figure 3 itself, beside the lent lengths. All calls, a block of writes too, keep their promise on every such
 -- storage, accepted and refused, on what CHECK passes and on what it rejects, so no clause of the promise is one that nobody can meet.
 -- Assumes nothing.
 use mathlib.Core.Path.{_≡_, refl, sym, _∙_, ap, ap₂, subst}
@@ -13,19 +13,19 @@ use lib.Dec.{leb}
 use Rattle.rules.specs.Settings.{Settings, Pieces, within}
 use Rattle.rules.specs.Sizing as sizing
 use Rattle.rules.specs.Line.{lineOf}
-use Rattle.rules.specs.Call.{Act, Call, Answer, refused}
-use Rattle.rules.specs.Call.Answer.{outcome, verdict}
+use Rattle.rules.specs.Call.{Write, Act, Call, Answer, writeOf, filled, refused}
+use Rattle.rules.specs.Call.Answer.{outcome, verdict, filling}
 use Rattle.rules.specs.Call.Change.{WRITE, MARK, ROLLBACK, ADVANCE}
 use Rattle.rules.specs.Call.Act.{READ, LOOK, CHANGE}
-use Rattle.rules.specs.Call.Call.{RESET, CHECK, ON}
+use Rattle.rules.specs.Call.Call.{RESET, CHECK, ON, WRITE-BLOCK}
 use Rattle.rules.specs.Seen.{accepted}
 use Rattle.rules.specs.Registers.{Registers, liveFrames, stateFits, atStart}
 use Rattle.rules.specs.Refusal.{refusal, actRefusal, lacks, askedRefusal, factsBy}
 use Rattle.rules.specs.Figure3.{Cache, WellCache, emptyCache, holds, cacheStep}
 use Rattle.rules.specs.Figure2.{Figure, initial, figureStep, figureSeen, registersStep}
 use Rattle.rules.specs.Plain.{Each}
-use Rattle.rules.specs.Promise.{Kind, Lawful, WellFigure, Promise, Run, Stepped, Accepted, seenOf, factsOf}
-use Rattle.rules.specs.Promise.Run.{stop, next}
+use Rattle.rules.specs.Promise.{Kind, Lawful, WellFigure, Promise, Run, Stepped, Accepted, Singly, seenOf, factsOf}
+use Rattle.rules.specs.Promise.RunBy.{stop, next}
 use Rattle.rules.specs.Cases.{Row, rows, ample, played}
 use Rattle.rules.proofs.Chain.{passed, state-passed, marked-passed, place-passed, write-passed, Placed}
 use Rattle.rules.proofs.Settings.{within-good}
@@ -34,6 +34,7 @@ use Rattle.rules.proofs.Registers.{Fits, fits-facts, facts-fit, live-st
 use Rattle.rules.proofs.WellSteps.{initial-well, mark-well, rollback-well, advance-well, write-well}
 use Rattle.rules.proofs.WellCache.{empty-well, use-well, forget-well}
 use Rattle.rules.proofs.Promise.{refuse, accept, accepted-form}
+use Rattle.rules.proofs.WriteBlock.{outcome-form, write-block-accept}
 use Rattle.rules.proofs.Demand3.{demand-3}
 use Rattle.rules.proofs.Cases.{each-case, each-reset}
 
@@ -244,40 +245,68 @@ module _ (s : Chip) where
         (record { kept = refl; says = s .intact; answer = refl; only = λ h. h; always = λ h. h }) refl refl,
   )
 
-  accepts : (c : Call) → number c ≡ 0 → Performed c s
+  -- An accepted act,
+  accepts : (c : Act) → number (ON c) ≡ 0 → Performed (ON c) s
   unfolding number lacking refusal actRefusal factsBy seenOf reply
-  accepts (RESET asked) e = starts asked e
-  accepts CHECK e = checks e
-  accepts (ON (READ w a)) e =
+  accepts (READ w a) e =
       goes (READ w a) e (λ i. read-moves (s .figures) (s .sound i) w a (place-passed (settingsOf (s .figures)) w a 0 (state-passed _ _ e) .0))
       (λ a t h. h)
-  accepts (ON (LOOK q)) e = (
+  accepts (LOOK q) e = (
     reply (LOOK q),
     s,
     accept chip (ON (LOOK q)) s lacking (exactly (ON (LOOK q))) e (accepted-form _ _ (LOOK q))
         (record { kept = refl; answer = λ w. refl }) refl refl,
   )
-  accepts (ON (CHANGE (WRITE w a v))) e =
+  accepts (CHANGE (WRITE w a v)) e =
       let p = write-passed (settingsOf (s .figures)) w a v _ (state-passed _ _ e) in
       goes (CHANGE (WRITE w a v)) e
       (λ i. write-moves (s .figures) (s .sound i) w a v (p .0) (not-true _ (passed _ 13 0 (omega arith) (p .2) .0))) (λ a t h. h)
-  accepts (ON (CHANGE MARK)) e =
+  accepts (CHANGE MARK) e =
       goes (CHANGE MARK) e
       (λ i. mark-moves (s .figures) (s .sound i) (ltb-true _ _ (passed _ 12 0 (omega arith) (state-passed _ _ e) .0))) (λ a t h. h)
-  accepts (ON (CHANGE (ROLLBACK k))) e =
+  accepts (CHANGE (ROLLBACK k)) e =
       goes (CHANGE (ROLLBACK k)) e (λ i. rollback-moves (s .figures) (s .sound i) k (marked-passed _ k (state-passed _ _ e) .1)) (λ a t h. h)
-  accepts (ON (CHANGE (ADVANCE k))) e =
+  accepts (CHANGE (ADVANCE k)) e =
       goes (CHANGE (ADVANCE k)) e (λ i. advance-moves (s .figures) (s .sound i) k (marked-passed _ k (state-passed _ _ e) .1)) (λ a t h. h)
 
-  decide : (c : Call) (n : ℕ) → number c ≡ n → Performed c s
+  -- and a call, which may be refused.
+  decide : (c : Call) (n : ℕ) → number c ≡ n → (number c ≡ 0 → Performed c s) → Performed c s
   unfolding number
-  decide c zero e = accepts c e
-  decide c (suc n) e =
+  decide c zero e done = done e
+  decide c (suc n) e done =
       (refused (number c) c, s, refuse chip c s lacking (exactly c) (λ z. suc-ne-zero n (sym e ∙ z)))
+
+-- A block's items: single WRITEs, each of which answers with its refusal or 0.
+Done : List Write → Chip → Type 0
+Done ws s = (ns : List ℕ) × (t : Chip) × Singly chip s ws ns t
+
+one-item : (w : Write) (s : Chip) → (n : ℕ) × (t : Chip) × Promise chip (ON (writeOf w)) s (outcome n) t
+unfolding refused
+one-item w s =
+    let p : Performed (ON (writeOf w)) s = decide s (ON (writeOf w)) (number s (ON (writeOf w))) refl (accepts s (writeOf w)) in
+    let n : ℕ = refusal (factsOf chip s) (p .2 .lacking) (ON (writeOf w)) in
+    (n, p .1, subst (λ (a : Answer). Promise chip (ON (writeOf w)) s a (p .1)) (outcome-form (p .0) n (p .2 .number)) (p .2))
+
+items-done : (ws : List Write) (s : Chip) → Done ws s
+unfolding Done
+items-done [] s = ([], s, stop)
+items-done (w ∷ ws) s =
+    let one = one-item w s in
+    let rest = items-done ws (one .1) in
+    (one .0 ∷ rest .0, rest .1, next (one .2) (rest .2))
+
+accepts-call : (c : Call) (s : Chip) → number s c ≡ 0 → Performed c s
+unfolding number Done
+accepts-call (RESET asked) s e = starts s asked e
+accepts-call CHECK s e = checks s e
+accepts-call (ON c) s e = accepts s c e
+accepts-call (WRITE-BLOCK items list) s e =
+    let d = items-done items s in
+    (filling 0 (filled (d .0) list), d .1, write-block-accept chip s (d .1) items list (d .0) (lacking s) e (d .2))
 
 -- Every call on every storage has an answer and a storage after it that keep the promise.
 pub perform : (c : Call) (s : Chip) → Performed c s
-perform c s = decide s c (number s c) refl
+perform c s = decide s c (number s c) refl (accepts-call c s)
 
 -- Every list of calls is a run.
 pub runs : (calls : List Call) (s : Chip) → (given : List Answer) × (u : Chip) × Run chip s calls given u

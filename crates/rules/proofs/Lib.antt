@@ -15,4 +15,5 @@ pub mod Demand3
 pub mod WellSteps
 pub mod WellCache
 pub mod Promise
+pub mod WriteBlock
 pub mod Instance

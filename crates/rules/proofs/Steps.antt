@@ -17,7 +17,8 @@ use Rattle.rules.specs.Call.{Act}
 use Rattle.rules.specs.Call.Change.{WRITE, MARK, ROLLBACK, ADVANCE}
 use Rattle.rules.specs.Call.Act.{READ, LOOK, CHANGE}
 use Rattle.rules.specs.Refusal.{Facts, actRefusal}
-use Rattle.rules.specs.Plain.{Write, Group, Plain, withGroups, play, playGroup, playAll, touches, addWrite, fresh, plainStep}
+use Rattle.rules.specs.Call.{Write}
+use Rattle.rules.specs.Plain.{Group, Plain, withGroups, play, playGroup, playAll, touches, addWrite, fresh, plainStep}
 use Rattle.rules.specs.Registers.{Registers}
 use Rattle.rules.specs.Figure2.{withFrames, versionIn, mrv, omrv, initial, written, marked, figureStep, registersStep}
 use Rattle.rules.proofs.Chain.{marked-passed}

@@ -11,7 +11,8 @@ use lib.ListN.{length, getD}
 use Rattle.rules.specs.Settings.{Settings}
 use Rattle.rules.specs.Line.{Line, Memory, IsLine, edit, valueAt, lineOf, offsetOf}
 use Rattle.rules.specs.Refusal.{isWidth}
-use Rattle.rules.specs.Plain.{Write, play}
+use Rattle.rules.specs.Call.{Write}
+use Rattle.rules.specs.Plain.{play}
 use Rattle.rules.proofs.Chain.{Placed}
 use Rattle.rules.proofs.Line.{read-edit, edit-before, edit-after, line-edit}
 

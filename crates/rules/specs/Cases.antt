@@ -1,5 +1,5 @@
 -- "Cases at the edges (P: proved)": the P cases of document 01 as one table of lists of calls with their answers, the whole session
--- of document 01 with its output as the last row.
+-- of document 01 with its output behind them, and rows of requests.
 use Prim.Native.Nat.{ℕ, suc}
 use mathlib.Core.Bool.{Bool, cond}
 use mathlib.Core.List.{List, [], _∷_, _++_}
@@ -7,14 +7,14 @@ use lib.ListN.{replicate}
 use lib.Dec.{eqb}
 use Rattle.rules.specs.Settings.{Settings, Pieces, elements}
 use Rattle.rules.specs.Sizing.{settingsOf}
-use Rattle.rules.specs.Call.{Call, Answer, numberIn}
+use Rattle.rules.specs.Call.{Write, Call, Answer, numberIn}
 use Rattle.rules.specs.Call.Place.{in-frame, in-archive}
 use Rattle.rules.specs.Call.Origin.{from-cache, from}
-use Rattle.rules.specs.Call.Answer.{outcome, reading, counting}
+use Rattle.rules.specs.Call.Answer.{outcome, reading, counting, filling}
 use Rattle.rules.specs.Call.Look.{COUNTS}
 use Rattle.rules.specs.Call.Change.{WRITE, MARK, ROLLBACK, ADVANCE}
 use Rattle.rules.specs.Call.Act.{READ, LOOK, CHANGE}
-use Rattle.rules.specs.Call.Call.{RESET, ON}
+use Rattle.rules.specs.Call.Call.{RESET, ON, WRITE-BLOCK}
 use Rattle.rules.specs.Refusal.{askedRefusal}
 use Rattle.rules.specs.Plain.{answersFrom, freshModel}
 
@@ -47,6 +47,9 @@ advance k = ON (CHANGE (ADVANCE k))
 
 abbrev counts : Call
 counts = ON (LOOK COUNTS)
+
+abbrev item : (width address value : ℕ) → Write
+item width address value = record { width = width; address = address; value = value }
 
 abbrev ok : Answer
 ok = outcome 0
@@ -171,6 +174,33 @@ rows =
           ∷ [];
       oks = 10;
       noes = 3;
+    }
+    -- Request 2.1, in a pool of one page: the second item gets 7 and the third, which needs a page more, 13; the fourth, in a page that is there
+    -- already, is accepted, and what stands behind the last answer stays. A list that is too short, and no items. The third item's line was not
+    -- loaded.
+    ∷ record {
+      asked = settingsOf 16 16 1;
+      calls =
+          WRITE-BLOCK (item 1 0 5 ∷ item 3 1 0 ∷ item 1 128 7 ∷ item 1 16 9 ∷ []) (99 ∷ 99 ∷ 99 ∷ 99 ∷ 99 ∷ [])
+          ∷ WRITE-BLOCK (item 1 0 6 ∷ item 1 1 6 ∷ []) (99 ∷ [])
+          ∷ WRITE-BLOCK [] []
+          ∷ read 1 0
+          ∷ read 1 16
+          ∷ read 1 128
+          ∷ counts
+          ∷ [];
+      answers =
+          ok
+          ∷ filling 0 (0 ∷ 7 ∷ 13 ∷ 0 ∷ 99 ∷ [])
+          ∷ filling 14 (99 ∷ [])
+          ∷ filling 0 []
+          ∷ reading 0 5 from-cache
+          ∷ reading 0 9 from-cache
+          ∷ reading 0 0 (from in-archive)
+          ∷ counting 0 1 1
+          ∷ [];
+      oks = 7;
+      noes = 1;
     }
     ∷ []
 

@@ -8,20 +8,15 @@ use lib.ListN.{length, take, drop}
 use lib.Dec.{eqb}
 use Rattle.rules.specs.Settings.{Settings, Pieces, circle}
 use Rattle.rules.specs.Line.{Memory, IsLine, zeros, edit, lineOf, offsetOf}
-use Rattle.rules.specs.Call.{Act, Call, Place, Answer, refused}
+use Rattle.rules.specs.Call.{Write, Act, Call, Place, Answer, writeOf, filled, refused}
 use Rattle.rules.specs.Call.Place.{in-frame, in-archive}
-use Rattle.rules.specs.Call.Answer.{outcome, verdict}
+use Rattle.rules.specs.Call.Answer.{outcome, verdict, filling}
 use Rattle.rules.specs.Call.Change.{WRITE, MARK, ROLLBACK, ADVANCE}
 use Rattle.rules.specs.Call.Act.{READ, LOOK, CHANGE}
-use Rattle.rules.specs.Call.Call.{RESET, CHECK, ON}
+use Rattle.rules.specs.Call.Call.{RESET, CHECK, ON, WRITE-BLOCK}
 use Rattle.rules.specs.Seen.{Seen, further, count, needs, accepted}
 use Rattle.rules.specs.Refusal.{Facts, refusal, writeRefusal, lacks}
 use Rattle.rules.specs.Figure3.{Cache, emptyCache, holds, cacheStep}
-
-pub record Write : Type 0 where
-  pub width : ℕ
-  pub address : ℕ
-  pub value : ℕ
 
 -- The writes between two marks, newest first.
 abbrev pub Group : Type 0
@@ -142,19 +137,39 @@ pub record Model : Type 0 where
 unfoldable pub freshModel : Settings → Model
 freshModel s = record { plain = fresh s; cache = emptyCache }
 
--- The answer, given the refusal or 0; "CHECK yes",
-unfoldable pub modelAnswer : ℕ → Model → Call → Answer
-modelAnswer zero m (RESET s) = outcome 0
-modelAnswer zero m CHECK = verdict 0 true
-modelAnswer zero m (ON a) = accepted (plainSeen (m .plain)) (holds (m .cache)) a
-modelAnswer (suc n) m c = refused (suc n) c
+-- What an act leaves, given its refusal or 0: "A refused call gets the answer fixed below and changes nothing."
+unfoldable pub actStep : ℕ → Model → Act → Model
+actStep zero m a = record { plain = plainStep a (m .plain); cache = cacheStep (plainSeen (m .plain)) a (m .cache) }
+actStep (suc n) m a = m
 
--- and what the call leaves: "A refused call gets the answer fixed below and changes nothing."
-unfoldable pub modelStep : ℕ → Model → Call → Model
-modelStep zero m (RESET s) = freshModel s
-modelStep zero m CHECK = m
-modelStep zero m (ON a) = record { plain = plainStep a (m .plain); cache = cacheStep (plainSeen (m .plain)) a (m .cache) }
-modelStep (suc n) m c = m
+-- A block of writes "does them in order; a refused item is skipped and the later ones still tried" (request 2.1), "exactly as if the items had been sent
+-- singly": the refusal of each single WRITE, or 0,
+unfoldable pub itemRefusals : Pieces → Model → List Write → List ℕ
+itemRefusals lengths m [] = []
+itemRefusals lengths m (w ∷ ws) =
+    let n = plainRefusal lengths (m .plain) (ON (writeOf w)) in
+    n ∷ itemRefusals lengths (actStep n m (writeOf w)) ws
+
+-- and what they leave.
+unfoldable pub afterItems : Pieces → Model → List Write → Model
+afterItems lengths m [] = m
+afterItems lengths m (w ∷ ws) = afterItems lengths (actStep (plainRefusal lengths (m .plain) (ON (writeOf w))) m (writeOf w)) ws
+
+-- The answer, given the refusal or 0; "CHECK yes",
+unfoldable pub modelAnswer : Pieces → ℕ → Model → Call → Answer
+modelAnswer lengths zero m (RESET s) = outcome 0
+modelAnswer lengths zero m CHECK = verdict 0 true
+modelAnswer lengths zero m (ON a) = accepted (plainSeen (m .plain)) (holds (m .cache)) a
+modelAnswer lengths zero m (WRITE-BLOCK items list) = filling 0 (filled (itemRefusals lengths m items) list)
+modelAnswer lengths (suc n) m c = refused (suc n) c
+
+-- and what the call leaves.
+unfoldable pub modelStep : Pieces → ℕ → Model → Call → Model
+modelStep lengths zero m (RESET s) = freshModel s
+modelStep lengths zero m CHECK = m
+modelStep lengths zero m (ON a) = actStep zero m a
+modelStep lengths zero m (WRITE-BLOCK items list) = afterItems lengths m items
+modelStep lengths (suc n) m c = m
 
 -- "It is fed each call's arguments and the lent lengths, and nothing from the program's own record": the answers to a list of
 -- calls.
@@ -162,4 +177,4 @@ unfoldable pub answersFrom : Pieces → Model → List Call → List Answer
 answersFrom lengths m [] = []
 answersFrom lengths m (c ∷ cs) =
     let n = plainRefusal lengths (m .plain) c in
-    modelAnswer n m c ∷ answersFrom lengths (modelStep n m c) cs
+    modelAnswer lengths n m c ∷ answersFrom lengths (modelStep lengths n m c) cs

@@ -8,12 +8,12 @@ use mathlib.Core.Option.{none, some}
 use mathlib.Core.List.{List, [], _∷_}
 use Rattle.rules.specs.Settings.{Settings, Pieces, elements, circle}
 use Rattle.rules.specs.Line.{Line, IsLine, zeros}
-use Rattle.rules.specs.Call.{Look, Act, Call, Answer, refused}
+use Rattle.rules.specs.Call.{Write, Look, Act, Call, Answer, writeOf, filled, refused}
 use Rattle.rules.specs.Call.Place.{in-archive}
 use Rattle.rules.specs.Call.Origin.{from}
-use Rattle.rules.specs.Call.Answer.{outcome, reading, lending, counting, verdict}
+use Rattle.rules.specs.Call.Answer.{outcome, reading, lending, counting, verdict, filling}
 use Rattle.rules.specs.Call.Act.{READ, LOOK, CHANGE}
-use Rattle.rules.specs.Call.Call.{RESET, CHECK, ON}
+use Rattle.rules.specs.Call.Call.{RESET, CHECK, ON, WRITE-BLOCK}
 use Rattle.rules.specs.Seen.{Seen, accepted}
 use Rattle.rules.specs.Registers.{Registers, liveFrames, stateFits, atStart}
 use Rattle.rules.specs.Refusal.{Facts, factsBy, refusal, lacks}
@@ -40,6 +40,12 @@ formOf (reading n v o) = reading n 0 (from in-archive)
 formOf (lending x) = lending []
 formOf (counting n l p) = counting n 0 0
 formOf (verdict n b) = verdict n false
+formOf (filling n left) = filling n []
+
+-- Requests done one after the other, each on what the one before left, with an answer for each. A step is one request on one storage.
+pub data RunBy {S Q A : Type 0} (Step : S → Q → A → S → Type 0) : S → List Q → List A → S → Type 0 where
+  stop : {s : S} → RunBy Step s [] [] s
+  next : {s t u : S} {q : Q} {qs : List Q} {a : A} {answers : List A} → Step s q a t → RunBy Step t qs answers u → RunBy Step s (q ∷ qs) (a ∷ answers) u
 
 -- A kind of storage: what a call is given and leaves, the state and the lent memory. Any state and any contents count.
 pub record Kind : Type 1 where
@@ -111,23 +117,23 @@ module _ (K : Kind) where
     pub registers : K .registers t ≡ registersStep c (K .registers s) (K .figure s)
     pub followed : K .Well s → Followed c s a t
 
-  -- What holds of an accepted call.
-  abbrev pub Accepted : Call → K .Storage → Answer → K .Storage → Type 0
-  Accepted (RESET asked) s a t = Started asked a t
-  Accepted CHECK s a t = Checked s a t
-  Accepted (ON (READ w x)) s a t = Stepped (READ w x) s a t
-  Accepted (ON (LOOK q)) s a t = Looked q s a t
-  Accepted (ON (CHANGE c)) s a t = Stepped (CHANGE c) s a t
+  -- What holds of an accepted act.
+  abbrev pub AcceptedAct : Act → K .Storage → Answer → K .Storage → Type 0
+  AcceptedAct (READ w x) = Stepped (READ w x)
+  AcceptedAct (LOOK q) = Looked q
+  AcceptedAct (CHANGE c) = Stepped (CHANGE c)
 
   -- The settings whose need bounds what a call may write: those asked for, or those in the state.
   unfoldable pub settingsFor : Call → K .Storage → Settings
   settingsFor (RESET asked) s = asked
   settingsFor CHECK s = settingsAt s
   settingsFor (ON c) s = settingsAt s
+  settingsFor (WRITE-BLOCK items list) s = settingsAt s
 
-  -- The promise of call c on storage s, with answer a and storage t after it.
-  pub record Promise (c : Call) (s : K .Storage) (a : Answer) (t : K .Storage) : Type 0 where
-    -- whether the storage was found to lack what the act needs: exact on storage that CHECK passes, free on the rest
+  -- The promise of call c on storage s, with answer a and storage t after it, by what holds of the call where it is accepted.
+  pub record PromiseBy (Done : K .Storage → Answer → K .Storage → Type 0) (c : Call) (s : K .Storage) (a : Answer) (t : K .Storage) : Type 0 where
+    -- whether the storage was found to lack what the act needs: exact on storage that CHECK passes, free on the rest. (The items of a block of
+    -- writes have promises of their own.)
     pub lacking : Act → Bool
     pub exact : K .Well s → refusal (factsOf s) lacking c ≡ refusal (factsOf s) (lacks (settingsAt s) (seenOf s)) c
     -- the answer has the call's form, with the refusal, or 0, in it (LINE's has none)
@@ -135,14 +141,38 @@ module _ (K : Kind) where
     -- "leaves state and lent memory untouched" (demand 1), with the answer of a refused call
     pub refused-answer : refusal (factsOf s) lacking c ≢ 0 → a ≡ refused (refusal (factsOf s) lacking c) c
     pub refused-kept : refusal (factsOf s) lacking c ≢ 0 → t ≡ s
-    pub accepted-call : refusal (factsOf s) lacking c ≡ 0 → Accepted c s a t
+    pub accepted-call : refusal (factsOf s) lacking c ≡ 0 → Done s a t
     -- "stays inside the lent memory" (demand 1)
     pub lengths : K .lengths t ≡ K .lengths s
     pub past : K .past (elements (settingsFor c s)) t ≡ K .past (elements (settingsFor c s)) s
 
+  -- The promise of an act: what Promise below is for it.
+  abbrev pub ActPromise : Act → K .Storage → Answer → K .Storage → Type 0
+  ActPromise c = PromiseBy (AcceptedAct c) (ON c)
+
+  -- The items of a block of writes, "in order", each a single WRITE with its own promise.
+  abbrev pub Singly : K .Storage → List Write → List ℕ → K .Storage → Type 0
+  Singly = RunBy (λ s w n t. ActPromise (writeOf w) s (outcome n) t)
+
+  -- An accepted block of writes, on any storage: "Answers, state, memory and cache end exactly as if the items had been sent singly"
+  -- (request 2.1).
+  pub record WroteEach (items : List Write) (list : List ℕ) (s : K .Storage) (a : Answer) (t : K .Storage) : Type 0 where
+    pub refusals : List ℕ
+    pub singly : Singly s items refusals t
+    pub answer : a ≡ filling 0 (filled refusals list)
+
+  -- What holds of an accepted call.
+  abbrev pub Accepted : Call → K .Storage → Answer → K .Storage → Type 0
+  Accepted (RESET asked) = λ s a t. Started asked a t
+  Accepted CHECK = Checked
+  Accepted (ON c) = AcceptedAct c
+  Accepted (WRITE-BLOCK items list) = WroteEach items list
+
+  -- The promise of a call.
+  abbrev pub Promise : Call → K .Storage → Answer → K .Storage → Type 0
+  Promise c = PromiseBy (Accepted c) c
+
   -- A list of calls with its answers, from one storage to another. "Each later call gets the state and lent memory just as the call before
   -- it, refused or not, returned or left them; nothing else passes from call to call."
-  pub data Run : K .Storage → List Call → List Answer → K .Storage → Type 0 where
-    stop : {s : K .Storage} → Run s [] [] s
-    next : {s t u : K .Storage} {c : Call} {cs : List Call} {a : Answer} {answers : List Answer} → Promise c s a t → Run t cs answers u
-        → Run s (c ∷ cs) (a ∷ answers) u
+  abbrev pub Run : K .Storage → List Call → List Answer → K .Storage → Type 0
+  Run = RunBy (λ s c a t. Promise c s a t)

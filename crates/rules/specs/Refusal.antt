@@ -1,8 +1,10 @@
--- "Why a call is turned down": the refusals of each call as one chain, in document 01's order. 1, 2 and 3 are the session's.
+-- "Why a call is turned down": the refusals of each call as one chain, in document 01's order, with the numbers that requests add. 1, 2 and 3
+-- are the session's.
 -- "Each is given if its condition holds and no earlier one does, never otherwise."
 use Prim.Native.Nat.{ℕ, _+_, _-_, _*_, _%_, _^_}
 use mathlib.Core.Bool.{Bool, true, false, not, _&&_, _||_}
 use lib.Dec.{leb, ltb, eqb}
+use lib.ListN.{length}
 use Rattle.rules.specs.Settings.{Settings, Pieces, within, enough, circle}
 use Rattle.rules.specs.Line.{lineOf, blockOf}
 use Rattle.rules.specs.Registers.{Registers, liveFrames, stateFits}
@@ -11,7 +13,7 @@ use Rattle.rules.specs.Call.{Act, Call}
 use Rattle.rules.specs.Call.Look.{LINE, LINE-REFUSAL, COUNTS}
 use Rattle.rules.specs.Call.Change.{WRITE, MARK, ROLLBACK, ADVANCE}
 use Rattle.rules.specs.Call.Act.{READ, LOOK, CHANGE}
-use Rattle.rules.specs.Call.Call.{RESET, CHECK, ON}
+use Rattle.rules.specs.Call.Call.{RESET, CHECK, ON, WRITE-BLOCK}
 
 -- One link of a chain: refusal n unless the test holds, and what the rest of the chain says if it does.
 unfoldable pub unless : Bool → ℕ → ℕ → ℕ
@@ -81,8 +83,13 @@ actRefusal g lacking (CHANGE MARK) = unless (ltb (g .live) (circle (g .settings)
 actRefusal g lacking (CHANGE (ROLLBACK k)) = markedRefusal (g .live) k
 actRefusal g lacking (CHANGE (ADVANCE k)) = markedRefusal (g .live) k
 
+-- 14, of a block of writes: "the answer list is shorter than the write list, tested after 6" (request 2.1).
+unfoldable pub listRefusal : (items room : ℕ) → ℕ
+listRefusal items room = unless (leb items room) 14 0
+
 -- The refusal of a call, or 0.
 unfoldable pub refusal : Facts → (lacking : Act → Bool) → Call → ℕ
 refusal g lacking (RESET asked) = askedRefusal (g .lengths) asked
 refusal g lacking CHECK = stateRefusal g 0
 refusal g lacking (ON a) = stateRefusal g (actRefusal g (lacking a) a)
+refusal g lacking (WRITE-BLOCK items list) = stateRefusal g (listRefusal (length items) (length list))

@@ -11,7 +11,7 @@ use borrow.Author.Tests.{eq-eqb, ne-eqb}
 use Rattle.rules.specs.Settings.{Settings}
 use Rattle.rules.specs.Call.{Act, Call, Answer, numberIn, refused}
 use Rattle.rules.specs.Call.Call.{RESET, ON}
-use Rattle.rules.specs.Call.Answer.{outcome, reading, lending, counting, verdict}
+use Rattle.rules.specs.Call.Answer.{outcome, reading, lending, counting, verdict, filling}
 use Rattle.rules.specs.Refusal.{factsBy, refusal, askedRefusal}
 use Rattle.rules.specs.Plain.{Model, freshModel}
 use Rattle.rules.specs.Promise.{formOf}
@@ -208,6 +208,7 @@ form-number (reading n v o) = refl
 form-number (lending x) = refl
 form-number (counting n l p) = refl
 form-number (verdict n b) = refl
+form-number (filling n left) = refl
 
 pub named : (w : Word) (ns : List ℕ) (n : ℕ) (a : Answer) → formOf a ≡ formOf (refused n (callOf w ns)) → numberIn a ≡ n
 named w ns n a h = ((sym (form-number a) ∙ ap numberIn h) ∙ form-number (refused n (callOf w ns))) ∙ refused-number w ns n

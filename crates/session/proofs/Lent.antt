@@ -12,13 +12,14 @@ use borrow.Author.Tests.{leb-true, leb-false, le-leb, lt-leb, eqb-true, ne-eqb}
 use lib.Dec.{leb, eqb}
 use Rattle.rules.specs.Settings.{Settings, Pieces, within, elements, enough, covers}
 use Rattle.rules.specs.Refusal.{Facts, unless, askedRefusal, stateRefusal, placeRefusal, writeRefusal, lineRefusal, markedRefusal, lacks, actRefusal, refusal}
-use Rattle.rules.specs.Call.{Act, Call, numberIn, refused}
+use Rattle.rules.specs.Call.{Write, Act, Call, writeOf, numberIn, refused}
 use Rattle.rules.specs.Call.Look.{LINE, LINE-REFUSAL, COUNTS}
 use Rattle.rules.specs.Call.Change.{WRITE, MARK, ROLLBACK, ADVANCE}
 use Rattle.rules.specs.Call.Act.{READ, LOOK, CHANGE}
-use Rattle.rules.specs.Call.Call.{RESET, CHECK, ON}
-use Rattle.rules.specs.Plain.{Plain, Model, plainSeen, plainFacts, plainRefusal, plainStep, modelAnswer, modelStep, fresh, freshModel}
+use Rattle.rules.specs.Call.Call.{RESET, CHECK, ON, WRITE-BLOCK}
+use Rattle.rules.specs.Plain.{Plain, Model, plainSeen, plainFacts, plainRefusal, plainStep, actStep, afterItems, modelAnswer, modelStep, fresh, freshModel}
 use Rattle.rules.specs.Promise.{formOf}
+use Rattle.rules.proofs.Chain.{unless-not}
 use Rattle.rules.proofs.Promise.{accepted-form}
 use Rattle.rules.proofs.Settings.{Good, within-good}
 use Rattle.records.specs.declared.Word.{Word}
@@ -85,25 +86,20 @@ abbrev pub Roomy : Pieces → Store → Type 0
 Roomy lengths none = Unit {0}
 Roomy lengths (some m) = enough (m .plain .settings) lengths ≡ true
 
-unless-not : (b : Bool) (n rest : ℕ) → (n ≡ 6 → ⊥) → (rest ≡ 6 → ⊥) → unless b n rest ≡ 6 → ⊥
-unfolding unless
-unless-not true n rest p q = q
-unless-not false n rest p q = p
-
 place-not : (s : Settings) (w a rest : ℕ) → (rest ≡ 6 → ⊥) → placeRefusal s w a rest ≡ 6 → ⊥
 unfolding placeRefusal
-place-not s w a rest q = unless-not _ 7 _ (λ d. omega arith) (unless-not _ 8 _ (λ d. omega arith) (unless-not _ 9 _ (λ d. omega arith) q))
+place-not s w a rest q = unless-not 6 _ 7 _ (λ d. omega arith) (unless-not 6 _ 8 _ (λ d. omega arith) (unless-not 6 _ 9 _ (λ d. omega arith) q))
 
 act-not : (g : Facts) (b : Bool) (a : Act) → actRefusal g b a ≡ 6 → ⊥
 unfolding actRefusal writeRefusal lineRefusal markedRefusal
 act-not g b (READ w x) = place-not _ w x 0 (λ d. omega arith)
-act-not g b (LOOK (LINE l)) = unless-not _ 9 0 (λ d. omega arith) (λ d. omega arith)
-act-not g b (LOOK (LINE-REFUSAL l)) = unless-not _ 9 0 (λ d. omega arith) (λ d. omega arith)
+act-not g b (LOOK (LINE l)) = unless-not 6 _ 9 0 (λ d. omega arith) (λ d. omega arith)
+act-not g b (LOOK (LINE-REFUSAL l)) = unless-not 6 _ 9 0 (λ d. omega arith) (λ d. omega arith)
 act-not g b (LOOK COUNTS) = λ d. omega arith
-act-not g b (CHANGE (WRITE w x v)) = place-not _ w x _ (unless-not _ 10 _ (λ d. omega arith) (unless-not _ 13 0 (λ d. omega arith) (λ d. omega arith)))
-act-not g b (CHANGE MARK) = unless-not _ 12 0 (λ d. omega arith) (λ d. omega arith)
-act-not g b (CHANGE (ROLLBACK k)) = unless-not _ 11 0 (λ d. omega arith) (λ d. omega arith)
-act-not g b (CHANGE (ADVANCE k)) = unless-not _ 11 0 (λ d. omega arith) (λ d. omega arith)
+act-not g b (CHANGE (WRITE w x v)) = place-not _ w x _ (unless-not 6 _ 10 _ (λ d. omega arith) (unless-not 6 _ 13 0 (λ d. omega arith) (λ d. omega arith)))
+act-not g b (CHANGE MARK) = unless-not 6 _ 12 0 (λ d. omega arith) (λ d. omega arith)
+act-not g b (CHANGE (ROLLBACK k)) = unless-not 6 _ 11 0 (λ d. omega arith) (λ d. omega arith)
+act-not g b (CHANGE (ADVANCE k)) = unless-not 6 _ 11 0 (λ d. omega arith) (λ d. omega arith)
 
 on-not : (lengths : Pieces) (p : Plain) (a : Act) → enough (p .settings) lengths ≡ true → plainRefusal lengths p (ON a) ≡ 6 → ⊥
 unfolding plainRefusal plainFacts refusal stateRefusal unless
@@ -111,16 +107,17 @@ on-not lengths p a e d =
     let lacking = lacks (p .settings) (plainSeen p) a in
     act-not (plainFacts lengths p) lacking a (subst (λ (b : Bool). unless b 6 (actRefusal (plainFacts lengths p) lacking a) ≡ 6) e d)
 
-model-form : (n : ℕ) (m : Model) (c : Call) → formOf (modelAnswer n m c) ≡ formOf (refused n c)
+model-form : (lengths : Pieces) (n : ℕ) (m : Model) (c : Call) → formOf (modelAnswer lengths n m c) ≡ formOf (refused n c)
 unfolding modelAnswer refused
-model-form zero m (RESET asked) = refl
-model-form zero m CHECK = refl
-model-form zero m (ON a) = accepted-form _ _ a
-model-form (suc n) m c = refl
+model-form lengths zero m (RESET asked) = refl
+model-form lengths zero m CHECK = refl
+model-form lengths zero m (ON a) = accepted-form _ _ a
+model-form lengths zero m (WRITE-BLOCK items list) = refl
+model-form lengths (suc n) m c = refl
 
 number-is : (m : Model) (w : Word) (ns : List ℕ) → numberIn (answerTo runnerLent (some m) (callOf w ns)) ≡ plainRefusal runnerLent (m .plain) (callOf w ns)
 unfolding answerTo
-number-is m w ns = named w ns _ _ (model-form _ m (callOf w ns))
+number-is m w ns = named w ns _ _ (model-form runnerLent _ m (callOf w ns))
 
 -- A reset gets 4, 6 or 0 for the settings that it asks for, and no other record gets 6.
 reset-number : (o : Store) (w : Word) (ns : List ℕ) (r : Resets w (callOf w ns)) → numberIn (answerTo runnerLent o (callOf w ns)) ≡ askedRefusal runnerLent (r .settings)
@@ -164,12 +161,23 @@ step-settings (CHANGE MARK) p = refl
 step-settings (CHANGE (ROLLBACK k)) p = refl
 step-settings (CHANGE (ADVANCE k)) p = refl
 
+act-settings : (n : ℕ) (m : Model) (a : Act) → actStep n m a .plain .settings ≡ m .plain .settings
+unfolding actStep
+act-settings zero m a = step-settings a (m .plain)
+act-settings (suc n) m a = refl
+
+items-settings : (lengths : Pieces) (m : Model) (ws : List Write) → afterItems lengths m ws .plain .settings ≡ m .plain .settings
+unfolding afterItems
+items-settings lengths m [] = refl
+items-settings lengths m (w ∷ ws) = items-settings lengths _ ws ∙ act-settings _ m (writeOf w)
+
 step-roomy : (lengths : Pieces) (m : Model) (c : Call) (n : ℕ) → plainRefusal lengths (m .plain) c ≡ n → enough (m .plain .settings) lengths ≡ true
-    → enough (modelStep n m c .plain .settings) lengths ≡ true
-unfolding modelStep freshModel fresh plainRefusal plainFacts refusal
+    → enough (modelStep lengths n m c .plain .settings) lengths ≡ true
+unfolding modelStep actStep freshModel fresh plainRefusal plainFacts refusal
 step-roomy lengths m (RESET asked) zero e q = asked-enough lengths asked e
 step-roomy lengths m CHECK zero e q = q
 step-roomy lengths m (ON a) zero e q = subst (λ (s : Settings). enough s lengths ≡ true) (sym (step-settings a (m .plain))) q
+step-roomy lengths m (WRITE-BLOCK items list) zero e q = subst (λ (s : Settings). enough s lengths ≡ true) (sym (items-settings lengths m items)) q
 step-roomy lengths m c (suc n) e q = q
 
 call-roomy : (lengths : Pieces) (o : Store) (c : Call) → Roomy lengths o → Roomy lengths (storeAfter lengths o c)

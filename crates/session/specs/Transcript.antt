@@ -15,7 +15,7 @@ use Rattle.rules.specs.Settings.{Settings, Pieces, within, elements}
 use Rattle.rules.specs.Sizing.{settingsOf}
 use Rattle.rules.specs.Call.{Call, Answer, numberIn}
 use Rattle.rules.specs.Call.Answer.{outcome}
-use Rattle.rules.specs.Call.Call.{RESET, CHECK, ON}
+use Rattle.rules.specs.Call.Call.{RESET, CHECK, ON, WRITE-BLOCK}
 use Rattle.rules.specs.Refusal.{askedRefusal}
 use Rattle.rules.specs.Plain.{Model, plainRefusal, modelAnswer, modelStep, freshModel}
 use Rattle.tally.specs.Counts.{most}
@@ -27,6 +27,7 @@ unfoldable pub resetIn : Call → Option Settings
 resetIn (RESET asked) = some asked
 resetIn CHECK = none
 resetIn (ON a) = none
+resetIn (WRITE-BLOCK items list) = none
 
 -- A session's store: none before the first accepted reset, then the plain store with its cache.
 abbrev pub Store : Type 0
@@ -80,12 +81,12 @@ module _ (lengths : Pieces) where
   -- The answer to a record's call,
   unfoldable pub answerTo : Store → Call → Answer
   answerTo none c = outcome (unstartedRefusal (resetIn c))
-  answerTo (some m) c = modelAnswer (plainRefusal lengths (m .plain) c) m c
+  answerTo (some m) c = modelAnswer lengths (plainRefusal lengths (m .plain) c) m c
 
   -- and the store after it: "A refused call .. changes nothing", so that a refused reset leaves the old store, or none.
   unfoldable pub storeAfter : Store → Call → Store
   storeAfter none c = unstartedStore (resetIn c)
-  storeAfter (some m) c = some (modelStep (plainRefusal lengths (m .plain) c) m c)
+  storeAfter (some m) c = some (modelStep lengths (plainRefusal lengths (m .plain) c) m c)
 
   -- The answer to a line and the store after it: 1 and 2 come first, then 3 and the call's own. "Each is given if its condition holds and no
   -- earlier one does, never otherwise."

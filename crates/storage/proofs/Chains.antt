@@ -10,7 +10,7 @@ use lib.Dec.{ltb, leb, eqb}
 use Rattle.rules.specs.Settings.{Settings, Pieces, enough}
 use Rattle.rules.specs.Line.{offsetOf}
 use Rattle.rules.specs.Registers.{Registers, liveFrames, stateFits}
-use Rattle.rules.specs.Refusal.{unless, isWidth, askedRefusal, lineRefusal, markedRefusal, placeRefusal, writeRefusal, factsBy, stateRefusal}
+use Rattle.rules.specs.Refusal.{unless, isWidth, askedRefusal, lineRefusal, markedRefusal, placeRefusal, writeRefusal, listRefusal, factsBy, stateRefusal}
 use Rattle.rules.proofs.Chain.{Placed, fails, passes, passed, place-passed, write-passed, marked-passed}
 use Rattle.rules.proofs.Width.{widths, in-line, line-below}
 use Rattle.rules.proofs.Registers.{live-some}
@@ -88,24 +88,24 @@ measured s rest e told = told ∙ ap (λ (m : Pieces). admitted s m rest) e
 pub asked-measured : (s : Settings) {a : ℕ} {p n : Pieces} → p ≡ n → a ≡ askedRefusal p s → a ≡ askedRefusal n s
 asked-measured s e told = told ∙ ap (λ (m : Pieces). askedRefusal m s) e
 
+place-links : (s : Settings) (w a : ℕ) → Links (placeRefusal s w a)
+unfolding placeRefusal
+place-links s w a =
+    join (unless (isWidth w) 7) (λ rest. unless (eqb (a % w) 0) 8 (unless (leb (a + w) (16 * s .lines)) 9 rest)) (link (isWidth w) 7 (λ e. omega arith))
+    (join (unless (eqb (a % w) 0) 8) (unless (leb (a + w) (16 * s .lines)) 9) (link (eqb (a % w) 0) 8 (λ e. omega arith)) (link (leb (a + w) (16 * s .lines)) 9 (λ e. omega arith)))
+
 module _ (s : Registers) (p : Pieces) where
   admitted-links : Links (admitted s p)
   unfolding stateRefusal factsBy
   admitted-links =
       join (unless (stateFits s) 5) (unless (enough (s .settings) p) 6) (link (stateFits s) 5 (λ e. omega arith)) (link (enough (s .settings) p) 6 (λ e. omega arith))
 
-  place-links : (w a : ℕ) → Links (placeRefusal (s .settings) w a)
-  unfolding placeRefusal
-  place-links w a =
-      join (unless (isWidth w) 7) (λ rest. unless (eqb (a % w) 0) 8 (unless (leb (a + w) (16 * s .settings .lines)) 9 rest)) (link (isWidth w) 7 (λ e. omega arith))
-      (join (unless (eqb (a % w) 0) 8) (unless (leb (a + w) (16 * s .settings .lines)) 9) (link (eqb (a % w) 0) 8 (λ e. omega arith)) (link (leb (a + w) (16 * s .settings .lines)) 9 (λ e. omega arith)))
-
   -- WRITE's tests before 13: a refusal stands whatever comes after them, and once they pass 13 decides
   write-links : (w addr v : ℕ) → Links (λ rest. admitted s p (writeRefusal (s .settings) w addr v rest))
   unfolding writeRefusal
   write-links w addr v =
       join (admitted s p) (λ rest. placeRefusal (s .settings) w addr (unless (ltb v (256 ^ w)) 10 rest)) admitted-links
-      (join (placeRefusal (s .settings) w addr) (unless (ltb v (256 ^ w)) 10) (place-links w addr) (link (ltb v (256 ^ w)) 10 (λ e. omega arith)))
+      (join (placeRefusal (s .settings) w addr) (unless (ltb v (256 ^ w)) 10) (place-links (s .settings) w addr) (link (ltb v (256 ^ w)) 10 (λ e. omega arith)))
 
   pub write-stands : (w addr v a : ℕ) → a ≡ admitted s p (writeRefusal (s .settings) w addr v 0) → a ≢ 0 → (rest : ℕ) → a ≡ admitted s p (writeRefusal (s .settings) w addr v rest)
   write-stands w addr v a told z rest = turned (λ r. admitted s p (writeRefusal (s .settings) w addr v r)) (write-links w addr v) a rest told z
@@ -124,109 +124,104 @@ module _ (s : Registers) (p : Pieces) where
     admitted-turned rest z = turned (admitted s p) admitted-links a rest told z
 
     module _ (z : a ≡ 0) where
-      on : (r rest : ℕ) → r ≡ rest → r ≡ admitted s p rest
-      on = passes-on (admitted s p) admitted-links a told z
-
-      pub lines-in : 16 * s .settings .lines < 4294967296
-      lines-in =
-          let r = admitted-room s p a 0 told z in
-          omega (arith, r .lines-to)
+      -- past them the rest of the chain decides
+      pub admitted-on : (r rest : ℕ) → r ≡ rest → r ≡ admitted s p rest
+      admitted-on = passes-on (admitted s p) admitted-links a told z
 
       -- LINE
       pub line-passes : (l : ℕ) → l < s .settings .lines → 0 ≡ admitted s p (lineRefusal (s .settings) l)
       unfolding lineRefusal unless
-      line-passes l h = on 0 (lineRefusal (s .settings) l) (sym (ap (λ (b : Bool). unless b 9 0) (lt-ltb l (s .settings .lines) h)))
+      line-passes l h = admitted-on 0 (lineRefusal (s .settings) l) (sym (ap (λ (b : Bool). unless b 9 0) (lt-ltb l (s .settings .lines) h)))
 
       pub line-past : (l : ℕ) → s .settings .lines ≤ l → 9 ≡ admitted s p (lineRefusal (s .settings) l)
       unfolding lineRefusal unless
-      line-past l h = on 9 (lineRefusal (s .settings) l) (sym (ap (λ (b : Bool). unless b 9 0) (le-ltb l (s .settings .lines) h)))
+      line-past l h = admitted-on 9 (lineRefusal (s .settings) l) (sym (ap (λ (b : Bool). unless b 9 0) (le-ltb l (s .settings .lines) h)))
 
       -- MARK
       pub mark-passes : (live r : ℕ) → r ≡ live → r < s .settings .frames → 0 ≡ admitted s p (unless (ltb live (s .settings .frames)) 12 0)
       unfolding unless
-      mark-passes live r e h = on 0 (unless (ltb live (s .settings .frames)) 12 0) (sym (ap (λ (b : Bool). unless b 12 0) (lt-ltb live (s .settings .frames) (omega arith))))
+      mark-passes live r e h = admitted-on 0 (unless (ltb live (s .settings .frames)) 12 0) (sym (ap (λ (b : Bool). unless b 12 0) (lt-ltb live (s .settings .frames) (omega arith))))
 
       pub mark-past : (live r : ℕ) → r ≡ live → s .settings .frames ≤ r → 12 ≡ admitted s p (unless (ltb live (s .settings .frames)) 12 0)
       unfolding unless
-      mark-past live r e h = on 12 (unless (ltb live (s .settings .frames)) 12 0) (sym (ap (λ (b : Bool). unless b 12 0) (le-ltb live (s .settings .frames) (omega arith))))
+      mark-past live r e h = admitted-on 12 (unless (ltb live (s .settings .frames)) 12 0) (sym (ap (λ (b : Bool). unless b 12 0) (le-ltb live (s .settings .frames) (omega arith))))
 
       -- ROLLBACK and ADVANCE
       pub frames-none : (live k : ℕ) → k ≡ 0 → 11 ≡ admitted s p (markedRefusal live k)
       unfolding markedRefusal unless
       frames-none live k h =
-          on 11 (markedRefusal live k) (sym (ap (λ (b : Bool). unless (b && leb k (live - 1)) 11 0) (le-ltb 0 k (omega arith))))
+          admitted-on 11 (markedRefusal live k) (sym (ap (λ (b : Bool). unless (b && leb k (live - 1)) 11 0) (le-ltb 0 k (omega arith))))
 
       pub frames-passes : (live k r : ℕ) → r ≡ live → k ≢ 0 → k < r → 0 ≡ admitted s p (markedRefusal live k)
       unfolding markedRefusal unless
       frames-passes live k r e d h =
-          on 0 (markedRefusal live k)
+          admitted-on 0 (markedRefusal live k)
           (sym (ap (λ (b : Bool). unless (b && leb k (live - 1)) 11 0) (lt-ltb 0 k (omega arith)) ∙ ap (λ (b : Bool). unless b 11 0) (le-leb k (live - 1) (omega arith))))
 
       pub frames-past : (live k r : ℕ) → r ≡ live → r ≤ k → k ≢ 0 → 11 ≡ admitted s p (markedRefusal live k)
       unfolding markedRefusal unless
       frames-past live k r e h d =
-          on 11 (markedRefusal live k)
+          admitted-on 11 (markedRefusal live k)
           (sym (ap (λ (b : Bool). unless (ltb 0 k && b) 11 0) (lt-leb k (live - 1) (omega arith)) ∙ ap (λ (b : Bool). unless b 11 0) (and-false (ltb 0 k))))
 
-      -- READ
-      module _ (w addr : ℕ) (b : Bool) (width : b ≡ isWidth w) where
-        pub place-width : not b ≡ true → 7 ≡ admitted s p (placeRefusal (s .settings) w addr 0)
-        unfolding placeRefusal
-        place-width h = on 7 (placeRefusal (s .settings) w addr 0) (sym (fails (isWidth w) 7 _ (sym width ∙ not-true b h)))
+      -- a block of writes
+      pub list-passes : (items room : ℕ) → items ≤ room → 0 ≡ admitted s p (listRefusal items room)
+      unfolding listRefusal unless
+      list-passes items room h = admitted-on 0 (listRefusal items room) (sym (ap (λ (b : Bool). unless b 14 0) (le-leb items room h)))
 
-        module _ (known : not b ≡ false) where
-          of-width : isWidth w ≡ true
-          of-width = sym width ∙ not-false b known
+      pub list-short : (items room : ℕ) → room < items → 14 ≡ admitted s p (listRefusal items room)
+      unfolding listRefusal unless
+      list-short items room h = admitted-on 14 (listRefusal items room) (sym (ap (λ (b : Bool). unless b 14 0) (lt-leb items room h)))
 
-          pub width-some : 0 < w
-          width-some = width-few w of-width .0
+-- The tests of a width and an address,
+module _ (w : ℕ) (b : Bool) (width : b ≡ isWidth w) (known : not b ≡ false) where
+  of-width : isWidth w ≡ true
+  of-width = sym width ∙ not-false b known
 
-          pub place-aligned : addr % w ≢ 0 → 8 ≡ admitted s p (placeRefusal (s .settings) w addr 0)
-          unfolding placeRefusal
-          place-aligned h = on 8 (placeRefusal (s .settings) w addr 0) (sym (passes (isWidth w) 7 _ 8 of-width (fails (eqb (addr % w) 0) 8 _ (ne-eqb (addr % w) 0 h))))
+  pub width-some : 0 < w
+  width-some = width-few w of-width .0
 
-          pub width-in : w ≤ 16 * s .settings .lines
-          width-in =
-              let r = admitted-room s p a 0 told z in
-              omega (arith, r .lines-from, width-few w of-width .1)
+  pub width-in : (lines : ℕ) → (8 ≤ lines) × (lines ≤ 4096) → w ≤ 16 * lines
+  width-in lines h = omega (arith, width-few w of-width .1)
 
-          module _ (aligned : addr % w ≡ 0) where
-            pub place-past : 16 * s .settings .lines - w < addr → 9 ≡ admitted s p (placeRefusal (s .settings) w addr 0)
-            unfolding placeRefusal
-            place-past h =
-                on 9 (placeRefusal (s .settings) w addr 0)
-                (sym (passes (isWidth w) 7 _ 9 of-width (passes (eqb (addr % w) 0) 8 _ 9 (eq-eqb (addr % w) 0 aligned) (fails (leb (addr + w) (16 * s .settings .lines)) 9 0 (lt-leb (addr + w) (16 * s .settings .lines) (omega arith))))))
+module _ (s : Settings) (w addr : ℕ) (b : Bool) (width : b ≡ isWidth w) where
+  pub place-width : not b ≡ true → 7 ≡ placeRefusal s w addr 0
+  unfolding placeRefusal
+  place-width h = sym (fails (isWidth w) 7 _ (sym width ∙ not-true b h))
 
-            pub place-passes : addr ≤ 16 * s .settings .lines - w → 0 ≡ admitted s p (placeRefusal (s .settings) w addr 0)
-            unfolding placeRefusal
-            place-passes h =
-                on 0 (placeRefusal (s .settings) w addr 0)
-                (sym (passes (isWidth w) 7 _ 0 of-width (passes (eqb (addr % w) 0) 8 _ 0 (eq-eqb (addr % w) 0 aligned) (passes (leb (addr + w) (16 * s .settings .lines)) 9 0 0 (le-leb (addr + w) (16 * s .settings .lines) (omega (arith, width-in))) refl))))
+  module _ (known : not b ≡ false) where
+    pub place-aligned : addr % w ≢ 0 → 8 ≡ placeRefusal s w addr 0
+    unfolding placeRefusal
+    place-aligned h = sym (passes (isWidth w) 7 _ 8 (of-width w b width known) (fails (eqb (addr % w) 0) 8 _ (ne-eqb (addr % w) 0 h)))
 
-  -- WRITE
-  module _ (w addr v a : ℕ) (told : a ≡ admitted s p (placeRefusal (s .settings) w addr 0)) where
-    both-links : Links (λ rest. admitted s p (placeRefusal (s .settings) w addr rest))
-    both-links = join (admitted s p) (placeRefusal (s .settings) w addr) admitted-links (place-links w addr)
+    module _ (aligned : addr % w ≡ 0) where
+      pub place-past : 16 * s .lines - w < addr → 9 ≡ placeRefusal s w addr 0
+      unfolding placeRefusal
+      place-past h =
+          sym (passes (isWidth w) 7 _ 9 (of-width w b width known) (passes (eqb (addr % w) 0) 8 _ 9 (eq-eqb (addr % w) 0 aligned) (fails (leb (addr + w) (16 * s .lines)) 9 0 (lt-leb (addr + w) (16 * s .lines) (omega arith)))))
 
-    pub write-turned : a ≢ 0 → a ≡ admitted s p (writeRefusal (s .settings) w addr v 0)
-    unfolding writeRefusal
-    write-turned z = turned (λ rest. admitted s p (placeRefusal (s .settings) w addr rest)) both-links a (unless (ltb v (256 ^ w)) 10 0) told z
+      pub place-passes : (8 ≤ s .lines) × (s .lines ≤ 4096) → addr ≤ 16 * s .lines - w → 0 ≡ placeRefusal s w addr 0
+      unfolding placeRefusal
+      place-passes l h =
+          sym (passes (isWidth w) 7 _ 0 (of-width w b width known) (passes (eqb (addr % w) 0) 8 _ 0 (eq-eqb (addr % w) 0 aligned) (passes (leb (addr + w) (16 * s .lines)) 9 0 0 (le-leb (addr + w) (16 * s .lines) (omega (arith, width-in w b width known (s .lines) l))) refl)))
 
-    pub write-width : a ≡ 0 → isWidth w ≡ true
-    write-width z = place-passed (s .settings) w addr 0 (admitted-rest a _ told z) .0 .width
+-- and of a value behind them.
+module _ (s : Settings) (w addr v a : ℕ) (told : a ≡ placeRefusal s w addr 0) where
+  pub write-turned : a ≢ 0 → a ≡ writeRefusal s w addr v 0
+  unfolding writeRefusal
+  write-turned z = turned (placeRefusal s w addr) (place-links s w addr) a (unless (ltb v (256 ^ w)) 10 0) told z
 
-    module _ (z : a ≡ 0) (b : Bool) (fits : b ≡ ltb v (256 ^ w)) where
-      pub write-passes : b ≡ true → 0 ≡ admitted s p (writeRefusal (s .settings) w addr v 0)
-      unfolding writeRefusal unless
-      write-passes h =
-          passes-on (λ rest. admitted s p (placeRefusal (s .settings) w addr rest)) both-links a told z 0 (unless (ltb v (256 ^ w)) 10 0)
-          (sym (ap (λ (t : Bool). unless t 10 0) (sym fits ∙ h)))
+  pub write-width : a ≡ 0 → isWidth w ≡ true
+  write-width z = place-passed s w addr 0 (sym told ∙ z) .0 .width
 
-      pub write-wide : b ≡ false → 10 ≡ admitted s p (writeRefusal (s .settings) w addr v 0)
-      unfolding writeRefusal unless
-      write-wide h =
-          passes-on (λ rest. admitted s p (placeRefusal (s .settings) w addr rest)) both-links a told z 10 (unless (ltb v (256 ^ w)) 10 0)
-          (sym (ap (λ (t : Bool). unless t 10 0) (sym fits ∙ h)))
+  module _ (z : a ≡ 0) (b : Bool) (fits : b ≡ ltb v (256 ^ w)) where
+    pub write-passes : b ≡ true → 0 ≡ writeRefusal s w addr v 0
+    unfolding writeRefusal unless
+    write-passes h = passes-on (placeRefusal s w addr) (place-links s w addr) a told z 0 (unless (ltb v (256 ^ w)) 10 0) (sym (ap (λ (t : Bool). unless t 10 0) (sym fits ∙ h)))
+
+    pub write-wide : b ≡ false → 10 ≡ writeRefusal s w addr v 0
+    unfolding writeRefusal unless
+    write-wide h = passes-on (placeRefusal s w addr) (place-links s w addr) a told z 10 (unless (ltb v (256 ^ w)) 10 0) (sym (ap (λ (t : Bool). unless t 10 0) (sym fits ∙ h)))
 
 -- What the calls have once they are admitted: ROLLBACK and ADVANCE,
 pub frames-room : (s : Registers) (p : Pieces) (a k : ℕ) → a ≡ admitted s p (markedRefusal (liveFrames s) k) → a ≡ 0 → FramesRoom s p k
@@ -257,10 +252,6 @@ pub write-room : (s : Registers) (p : Pieces) (r w a v : ℕ) → r ≡ admitted
 write-room s p r w a v told z =
     let d = write-passed (s .settings) w a v 0 (admitted-rest s p r _ told z) .0 in
     (record { room = admitted-room s p r _ told z; line-below = line-below d; bytes = place-bytes (s .settings) w a d }, d)
-
-pub write-told : (s : Registers) (p : Pieces) (r w a v : ℕ) → r ≡ admitted s p (writeRefusal (s .settings) w a v 0)
-    → Admits r (admitted s p (writeRefusal (s .settings) w a v 0)) (PlaceRoom s p w a)
-write-told s p r w a v e = (e, λ z. write-room s p r w a v e z .0)
 
 -- and LINE.
 pub line-room : (s : Registers) (p : Pieces) (r l : ℕ) → r ≡ admitted s p (lineRefusal (s .settings) l) → r ≡ 0 → LineRoom s p l

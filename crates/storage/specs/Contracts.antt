@@ -1,17 +1,17 @@
 -- What each call promises in all: the promise of `rules`, and by definitions the state and the pieces of lent memory that it writes. A piece
 -- that a call does not write is lent to it to read only, and stands in its contract as the same list before and after. The functions of
--- `access`, `marks` and `store` and the exported ones state the same.
+-- `access`, `write_blocks`, `marks` and `store` and the exported ones state the same.
 use Prim.Native.Nat.{ℕ}
 use mathlib.Core.Path.{_≡_}
 use mathlib.Core.List.{List}
 use Rattle.rules.specs.Sizing.{settingsOf}
 use Rattle.rules.specs.Line.{lineOf}
-use Rattle.rules.specs.Call.{Look, Answer, Origin}
-use Rattle.rules.specs.Call.Answer.{outcome, reading}
-use Rattle.rules.specs.Promise.{Promise}
+use Rattle.rules.specs.Call.{Write, Look, Answer, Origin, filled}
+use Rattle.rules.specs.Call.Answer.{outcome, reading, filling}
+use Rattle.rules.specs.Promise.{RunBy, Promise}
 use Rattle.rules.specs.Call.Change.{WRITE, MARK, ROLLBACK, ADVANCE}
 use Rattle.rules.specs.Call.Act.{READ, LOOK, CHANGE}
-use Rattle.rules.specs.Call.Call.{RESET, ON}
+use Rattle.rules.specs.Call.Call.{RESET, ON, WRITE-BLOCK}
 use Rattle.cache.specs.declared.Cache.{Cache}
 use Rattle.cache.specs.Entries.{cacheOf}
 use Rattle.storage.specs.declared.Registers.{Registers}
@@ -32,6 +32,21 @@ Resets x l f p r t =
 -- "WRITE(width, address, value): .. If the line has no written bit in CMF, its most recent version is copied there first; the bit is then set".
 abbrev pub Writes : Storage → (width address value refusal : ℕ) → Storage → Type 0
 Writes x w a v r t = Promise store (ON (CHANGE (WRITE w a v))) x (outcome r) t × (r ≡ 0 → WellStore x → WroteTo x w a v t)
+
+-- An item of a block of writes (request 2.1): it is done as WRITE does it.
+abbrev pub WritesItem : Storage → Write → (refusal : ℕ) → Storage → Type 0
+WritesItem x w r t = Writes x (w .width) (w .address) (w .value) r t
+
+-- The items "in order", each on the storage that the one before left, and each one's refusal, or 0, at its place in the answer list.
+pub record WritesItems (x : Storage) (items : List Write) (list left : List ℕ) (t : Storage) : Type 0 where
+  pub refusals : List ℕ
+  pub each : RunBy WritesItem x items refusals t
+  pub left-is : left ≡ filled refusals list
+
+-- "One call takes a list of writes and a list for answers, and does them in order": its promise, whose run of single WRITEs is this one, with
+-- all that WRITE says.
+abbrev pub WritesBlock : Storage → (items : List Write) → (list : List ℕ) → (refusal : ℕ) → (left : List ℕ) → Storage → Type 0
+WritesBlock x items list r left t = Promise store (WRITE-BLOCK items list) x (filling r left) t × (r ≡ 0 → WritesItems x items list left t)
 
 -- "READ(width, address): the value and its origin."
 abbrev pub Reads : Storage → (width address refusal value : ℕ) → Origin → Storage → Type 0

@@ -5,11 +5,11 @@ use rules::Need;
 use written::Shape;
 ghost use mathlib.Core.Path.{_≡_};
 ghost use mathlib.Core.Bool.{true};
-ghost use Prim.Native.Nat.{_^_};
+ghost use Prim.Native.Nat.{_^_, _≤_};
 ghost use lib.Dec.{ltb};
 ghost use Rattle.rules.specs.Settings.{covers};
 ghost use Rattle.rules.specs.Sizing.{settingsOf};
-ghost use Rattle.rules.specs.Refusal.{unless, isWidth, askedRefusal, lineRefusal, markedRefusal, placeRefusal, writeRefusal};
+ghost use Rattle.rules.specs.Refusal.{unless, isWidth, askedRefusal, lineRefusal, markedRefusal, placeRefusal, writeRefusal, listRefusal};
 ghost use Rattle.storage.specs.Storage.{settingsAt, registersOf, liveAt, memoryOf, lengthsIn, startIn, shapeAt, ringAt};
 ghost use Rattle.storage.specs.Admit.{piecesOf, inElements, admitted, Room, LineRoom, PlaceRoom, FramesRoom, Admits};
 
@@ -227,14 +227,11 @@ fn is_width(width: u32) -> bool
     false
 }
 
-// 5 to 9: the tests of READ. The address may be any number: nothing is added to it.
-pub fn admit_place(registers: Registers, lengths: Lengths, width: u32, address: u32) -> u32
-    ensures { λ r. ⌜ Admits r (admitted (registersOf registers) (piecesOf lengths) (placeRefusal (settingsAt registers) width address 0)) (PlaceRoom (registersOf registers) (piecesOf lengths) width address) ⌝ }
+// 7 to 9: the tests of a width and an address, which may be any number: nothing is added to it.
+fn place_refusal(registers: Registers, width: u32, address: u32) -> u32
+    requires { ⌜ (8 ≤ registers .lines) × (registers .lines ≤ 4096) ⌝ }
+    ensures { λ r. ⌜ r ≡ placeRefusal (settingsAt registers) width address 0 ⌝ }
 {
-    let refusal = admit(registers, lengths);
-    if refusal != 0 {
-        return refusal;
-    }
     if !is_width(width) {
         return 7;
     }
@@ -245,6 +242,17 @@ pub fn admit_place(registers: Registers, lengths: Lengths, width: u32, address: 
         return 9;
     }
     0
+}
+
+// 5 to 9: the tests of READ.
+pub fn admit_place(registers: Registers, lengths: Lengths, width: u32, address: u32) -> u32
+    ensures { λ r. ⌜ Admits r (admitted (registersOf registers) (piecesOf lengths) (placeRefusal (settingsAt registers) width address 0)) (PlaceRoom (registersOf registers) (piecesOf lengths) width address) ⌝ }
+{
+    let refusal = admit(registers, lengths);
+    if refusal != 0 {
+        return refusal;
+    }
+    place_refusal(registers, width, address)
 }
 
 // Whether a value has no more bytes than the width.
@@ -267,17 +275,12 @@ fn is_value(width: u32, value: u32) -> bool
     true
 }
 
-// 5 to 10: the tests of WRITE that come before 13.
-pub fn admit_write(
-    registers: Registers,
-    lengths: Lengths,
-    width: u32,
-    address: u32,
-    value: u32,
-) -> u32
-    ensures { λ r. ⌜ Admits r (admitted (registersOf registers) (piecesOf lengths) (writeRefusal (settingsAt registers) width address value 0)) (PlaceRoom (registersOf registers) (piecesOf lengths) width address) ⌝ }
+// 7 to 10: the tests of WRITE, once it is past 5 and 6, that come before 13.
+pub fn write_refusal(registers: Registers, width: u32, address: u32, value: u32) -> u32
+    requires { ⌜ (8 ≤ registers .lines) × (registers .lines ≤ 4096) ⌝ }
+    ensures { λ r. ⌜ r ≡ writeRefusal (settingsAt registers) width address value 0 ⌝ }
 {
-    let refusal = admit_place(registers, lengths, width, address);
+    let refusal = place_refusal(registers, width, address);
     if refusal != 0 {
         return refusal;
     }
@@ -285,4 +288,18 @@ pub fn admit_write(
         return 0;
     }
     10
+}
+
+// 5, 6 and 14: the tests of a block of writes, with so many items and room for so many answers.
+pub fn admit_write_block(registers: Registers, lengths: Lengths, items: usize, room: usize) -> u32
+    ensures { λ r. ⌜ r ≡ admitted (registersOf registers) (piecesOf lengths) (listRefusal items room) ⌝ }
+{
+    let earlier = admit(registers, lengths);
+    if earlier != 0 {
+        return earlier;
+    }
+    if room < items {
+        return 14;
+    }
+    0
 }

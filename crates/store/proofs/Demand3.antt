@@ -12,7 +12,7 @@ use Rattle.rules.specs.Call.Call.{RESET}
 use Rattle.rules.specs.Refusal.{askedRefusal, refusal, factsBy}
 use Rattle.rules.specs.Plain.{Model, plainRefusal, modelAnswer, modelStep, answersFrom, freshModel}
 use Rattle.rules.specs.Promise.{Promise, Run}
-use Rattle.rules.specs.Promise.Run.{stop, next}
+use Rattle.rules.specs.Promise.RunBy.{stop, next}
 use Rattle.rules.specs.Demand3.{Demand3, AnswersAsHistory}
 use Rattle.rules.proofs.Demand3.{demand-3, reached-well, answers-as-history}
 use Rattle.storage.specs.Storage.{Storage, lengthsIn, WellStore, store}
@@ -66,12 +66,12 @@ module _ (s t : Kept) (c : Call) (a : Answer) (m : Model) (q : AnswersAs s m) (h
   abbrev next-number : ℕ
   next-number = plainRefusal (lengthsKept s) (m .plain) c
 
-  pub store-answers-next : a ≡ modelAnswer next-number m c
+  pub store-answers-next : a ≡ modelAnswer (lengthsKept s) next-number m c
   unfolding answersFrom
   store-answers-next = heads _ _ _ _ (q t (c ∷ []) (a ∷ []) (next h stop))
 
-  pub store-goes-on : AnswersAs t (modelStep next-number m c)
+  pub store-goes-on : AnswersAs t (modelStep (lengthsKept s) next-number m c)
   unfolding answersFrom
   store-goes-on u calls given run =
       tails _ _ _ _ (q u (c ∷ calls) (a ∷ given) (next h run))
-      ∙ ap (λ (lengths : Pieces). answersFrom lengths (modelStep next-number m c) calls) (sym (h .lengths))
+      ∙ ap (λ (lengths : Pieces). answersFrom lengths (modelStep (lengthsKept s) next-number m c) calls) (sym (h .lengths))

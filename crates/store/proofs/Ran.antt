@@ -2,7 +2,7 @@
 use mathlib.Core.List.{List, [], _∷_, _++_}
 use Rattle.rules.specs.Call.{Call, Answer}
 use Rattle.rules.specs.Promise.{Run}
-use Rattle.rules.specs.Promise.Run.{stop, next}
+use Rattle.rules.specs.Promise.RunBy.{stop, next}
 use Rattle.storage.specs.Storage.{store}
 use Rattle.store.specs.Shown.{Kept, Promises, Ran}
 

@@ -22,7 +22,8 @@ ghost use Rattle.wellformed.specs.Decision.{Decides};
 ghost use Rattle.storage.specs.Storage.{registersIn, memoryOf, lengthsIn, storageOf, WellStore, store};
 ghost use Rattle.storage.specs.Admit.{admitted};
 ghost use Rattle.storage.specs.Steps.{freshState};
-ghost use Rattle.storage.specs.Contracts.{Resets, Writes, Reads, Marks, RollsBack, Advances};
+ghost use Rattle.storage.specs.Contracts.{Resets, Writes, WritesBlock, Reads, Marks, RollsBack, Advances};
+ghost use Rattle.write_blocks.specs.Items.{itemsOf};
 
 // The value of a read and its origin, with the refusal or 0.
 pub struct Reading {
@@ -141,6 +142,62 @@ pub fn write(
         width,
         address,
         value,
+    );
+    let registers = step.registers;
+    let after = Cache {
+        held,
+        origins,
+        valid,
+        bytes,
+        last,
+    };
+    Outcome {
+        state: State {
+            registers,
+            cache: after,
+        },
+        refusal: step.refusal,
+    }
+}
+
+// A block of writes: three numbers an item, its width, address and value.
+pub fn write_block(
+    state: State,
+    archive: &[u8],
+    pool: &mut [u8],
+    groups: &mut [u32],
+    table: &mut [u16],
+    owners: &mut [u32],
+    history: &[u16],
+    items: &[u32],
+    answers: &mut [u32],
+) -> Outcome
+    ensures { λ r. ⌜ WritesBlock
+        (storageOf state (now (archive .entry)) (now (pool .entry)) (now (groups .entry)) (now (table .entry)) (now (owners .entry)) (now (history .entry)))
+        (itemsOf (now (items .entry))) (now (answers .entry)) (r .refusal) (now (answers .exit))
+        (storageOf (r .state) (now (archive .entry)) (now (pool .exit)) (now (groups .exit)) (now (table .exit)) (now (owners .exit)) (now (history .entry))) ⌝ }
+{
+    let cache = state.cache;
+    let mut held = cache.held;
+    let mut origins = cache.origins;
+    let mut valid = cache.valid;
+    let mut bytes = cache.bytes;
+    let mut last = cache.last;
+    let step = write_blocks::write_block(
+        state.registers,
+        &mut held,
+        &mut origins,
+        &mut valid,
+        &mut bytes,
+        &mut last,
+        archive,
+        pool,
+        groups,
+        table,
+        owners,
+        history,
+        items,
+        answers,
     );
     let registers = step.registers;
     let after = Cache {

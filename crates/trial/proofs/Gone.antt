@@ -6,14 +6,14 @@ use native.Mathlib.Omega.{arith}
 use Rattle.rules.specs.Settings.{Settings, Pieces}
 use Rattle.rules.specs.Line.{zeros}
 use Rattle.rules.specs.Call.{Act, Call, Answer, Origin, numberIn, refused}
-use Rattle.rules.specs.Call.Answer.{outcome, reading, lending, counting, verdict}
+use Rattle.rules.specs.Call.Answer.{outcome, reading, lending, counting, verdict, filling}
 use Rattle.rules.specs.Call.Change.{WRITE, MARK, ROLLBACK}
 use Rattle.rules.specs.Call.Act.{READ, CHANGE}
 use Rattle.rules.specs.Call.Call.{ON}
 use Rattle.rules.specs.Seen.{accepted}
 use Rattle.rules.specs.Refusal.{refusal, actRefusal}
 use Rattle.rules.specs.Figure3.{holds, cacheStep}
-use Rattle.rules.specs.Plain.{Model, plainSeen, plainFacts, plainRefusal, plainStep, modelAnswer, modelStep, answersFrom, freshModel, fresh, addWrite, playAll, playGroup}
+use Rattle.rules.specs.Plain.{Model, plainSeen, plainFacts, plainRefusal, plainStep, actStep, modelAnswer, modelStep, answersFrom, freshModel, fresh, addWrite, playAll, playGroup}
 use Rattle.rules.proofs.Chain.{state-passed, write-passed}
 use Rattle.rules.proofs.Width.{widths, written-read}
 use Rattle.rules.proofs.WellSteps.{zeros-line}
@@ -33,6 +33,7 @@ valueIn (reading n v o) = v
 valueIn (lending x) = 0
 valueIn (counting n l p) = 0
 valueIn (verdict n b) = 0
+valueIn (filling n left) = 0
 
 -- An answer of 0 is an accepted act's, and the model goes on from its step.
 module _ (lengths : Pieces) (m : Model) (c : Act) (cs : List Call) where
@@ -48,11 +49,11 @@ module _ (lengths : Pieces) (m : Model) (c : Act) (cs : List Call) where
     goes-on : rest ≡ answersFrom lengths later cs
 
   accepted-step : ((k : ℕ) → numberIn (refused k (ON c)) ≡ k) → (a : Answer) (rest : List Answer) → a ∷ rest ≡ answersFrom lengths m (ON c ∷ cs) → numberIn a ≡ 0 → Accepted a rest
-  unfolding answersFrom modelAnswer modelStep headOf tailOf
+  unfolding answersFrom modelAnswer modelStep actStep headOf tailOf
   accepted-step names a rest e z = go number refl
     where
-      told : (k : ℕ) → number ≡ k → a ∷ rest ≡ modelAnswer k m (ON c) ∷ answersFrom lengths (modelStep k m (ON c)) cs
-      told k d = e ∙ ap (λ (j : ℕ). modelAnswer j m (ON c) ∷ answersFrom lengths (modelStep j m (ON c)) cs) d
+      told : (k : ℕ) → number ≡ k → a ∷ rest ≡ modelAnswer lengths k m (ON c) ∷ answersFrom lengths (modelStep lengths k m (ON c)) cs
+      told k d = e ∙ ap (λ (j : ℕ). modelAnswer lengths j m (ON c) ∷ answersFrom lengths (modelStep lengths j m (ON c)) cs) d
 
       go : (k : ℕ) → number ≡ k → Accepted a rest
       go zero d = record { passed = d; answer = ap (headOf a) (told zero d); goes-on = ap tailOf (told zero d) }

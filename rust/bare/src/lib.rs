@@ -5,7 +5,7 @@
 use core::fmt::Write;
 use core::panic::PanicInfo;
 use vcm::calls::{self, accepted, Lent};
-use vcm::{Refusal, Settings};
+use vcm::{Item, Refusal, Settings};
 
 #[panic_handler]
 fn panic(_: &PanicInfo) -> ! {
@@ -15,15 +15,15 @@ fn panic(_: &PanicInfo) -> ! {
 const SETTINGS: Settings = Settings {
     lines: 16,
     frames: 16,
-    pages: 1,
+    pages: 2,
 };
 
-/// The value read back after a rollback, and the refusal of a write that has no page.
+/// The value read back after a rollback, and the refusal of the write of a block that has no page.
 fn tries() -> Result<(u32, Refusal), Refusal> {
     let need = SETTINGS.need()?;
-    let (mut archive, mut pool) = ([0; 256], [0; 128]);
+    let (mut archive, mut pool) = ([0; 256], [0; 256]);
     let (mut groups, mut table) = ([0; 16], [0; 32]);
-    let (mut owners, mut history) = ([0; 1], [0; 256]);
+    let (mut owners, mut history) = ([0; 2], [0; 256]);
     if (need.groups, need.table) != (4 * groups.len(), 2 * table.len()) {
         return Err(Refusal::Memory);
     }
@@ -44,11 +44,19 @@ fn tries() -> Result<(u32, Refusal), Refusal> {
     accepted(calls::reset(&mut state, &mut lent, lines, frames, pages))?;
     accepted(calls::write(&mut state, &mut lent, 4, 0, 1988))?;
     accepted(calls::mark(&mut state, lent.shown()))?;
-    let refusal = calls::write(&mut state, &mut lent, 4, 128, 7);
+    let items = [Item::u32(0, 2024), Item::u32(128, 7)];
+    let mut answers = [0; 2];
+    accepted(calls::write_block(
+        &mut state,
+        &mut lent,
+        &items,
+        &mut answers,
+    ))?;
+    accepted(answers[0])?;
     accepted(calls::rollback(&mut state, &mut lent, 1))?;
     let reading = calls::read(&mut state, lent.shown(), 4, 0);
     accepted(reading.refusal)?;
-    Ok((reading.value, Refusal::from_number(refusal)))
+    Ok((reading.value, Refusal::from_number(answers[1])))
 }
 
 /// Text put into bytes as far as there is room.

@@ -2,13 +2,15 @@
 //!
 //! Without an argument: the workloads of the report's section VI on ours and on every peer. All answers are compared first, and a difference
 //! ends the program with status 1. Then lines `bench WORKLOAD PEER ns_ours ns_peer ratio`, nanoseconds for each call of the list and ours over
-//! the peer's, and a line for each bar. Bars are aims of speed: one that is missed does not change the status. A peer that is missing is told, and
-//! the status is then 1 at the end.
+//! the peer's, and a line for each bar. In the list `block` a run of writes is one block on ours, and beside it stands ours by single WRITEs,
+//! `ours-single`. Bars are aims of speed: one that is missed does not change the status. A peer that is missing is told, and the status is
+//! then 1 at the end.
 //!
 //! `--growth`: how the cost of each call grows with L, F, P and the live frames, as a table with tabs.
-//! `--replay LIST`, `--calls PEER` and `--full PEER PAGES`: what `rust/account` has callgrind count.
+//! `--replay LIST`, `--calls PEER`, `--full PEER PAGES` and `--block`: what `rust/account` has callgrind count.
 #![deny(unsafe_code)]
 
+mod block;
 mod cases;
 mod chip;
 mod growth;
@@ -40,6 +42,12 @@ const FINE: Settings = Settings {
 const TIGHT: Settings = Settings {
     frames: 256,
     pages: 4096,
+    ..FINE
+};
+
+/// What `block` runs on.
+const BLOCK: Settings = Settings {
+    pages: 2048,
     ..FINE
 };
 
@@ -76,6 +84,12 @@ fn full<P: Paged>(pages: &str) {
     counted(|sink| cases::full::<P>(settings, LIVE, TURNS, sink));
 }
 
+/// The writes of a short `block`, by the block call and singly.
+fn blocks() {
+    let list = workload::block(BLOCK, 20_000);
+    counted(|sink| block::counted(&list, sink));
+}
+
 fn main() -> ExitCode {
     let words: Vec<String> = std::env::args().skip(1).collect();
     let words: Vec<&str> = words.iter().map(String::as_str).collect();
@@ -93,8 +107,9 @@ fn main() -> ExitCode {
         ["--calls", "chip-rust"] => calls::<Chip>(),
         ["--full", "ours", pages] => full::<Store>(pages),
         ["--full", "chip-rust", pages] => full::<Chip>(pages),
+        ["--block"] => blocks(),
         _ => {
-            eprintln!("usage: bench [--growth | --replay fine|tight | --calls ours|chip-rust | --full ours|chip-rust PAGES]");
+            eprintln!("usage: bench [--growth | --replay fine|tight | --calls ours|chip-rust | --full ours|chip-rust PAGES | --block]");
             return ExitCode::FAILURE;
         }
     }

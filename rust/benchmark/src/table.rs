@@ -1,10 +1,11 @@
 //! The table of the benchmark: every workload on ours and on each peer, the slowest calls, and the bars.
+use crate::block;
 use crate::chip::Chip;
 use crate::latency::{self, Slowest};
 use crate::peer::{answers, compare, timed, Peer, Seen};
 use crate::plain::{Idle, LineJournal, UndoLog, WholeCopy};
 use crate::workload::{self, Settings, Workload};
-use crate::{FINE, TIGHT};
+use crate::{BLOCK, FINE, TIGHT};
 use std::hint::black_box;
 use std::time::Instant;
 use vcm::{Refusal, Store};
@@ -139,6 +140,16 @@ fn compare_all(list: &Workload) -> Result<(), String> {
     compare_sqlite(list, &ours).map_err(told)
 }
 
+/// The same of `block`, with reads put in: ours by the block call and by single WRITEs, and the peers that it is timed beside.
+fn compare_blocks(list: &Workload) -> Result<(), String> {
+    let list = &list.with_reads();
+    let told = |words: String| format!("{}: {words}", list.name);
+    let ours = answers::<Store>(list.settings, &list.ops);
+    block::compare(list, &ours).map_err(told)?;
+    compare::<Chip>(list.settings, &list.ops, &ours).map_err(told)?;
+    compare::<UndoLog>(list.settings, &list.ops, &ours).map_err(told)
+}
+
 #[cfg(sqlite)]
 fn compare_sqlite(list: &Workload, ours: &[Seen]) -> Result<(), String> {
     let ops = list.prefix(FEW);
@@ -209,6 +220,25 @@ fn latencies(table: &mut Table, fine: &Workload, long: &Workload) {
 /// Our slowest rollback without sweep of all, beside the journals' slowest after 10,000 writes.
 const LONG: &str = "latency/rollback-of-10000-writes";
 
+/// Ours by the block call beside ours by single WRITEs and beside peers, all in turns. Gives the first two over the undo log.
+fn blocks(table: &mut Table, list: &Workload) -> [f64; 2] {
+    let (mut blocks, mut singly) = (Vec::new(), Vec::new());
+    let (mut chip, mut log) = (Vec::new(), Vec::new());
+    for _ in 0..REPEATS {
+        blocks.push(block::timed(list));
+        singly.push(timed::<Store>(list.settings, &list.ops, list.warm));
+        chip.push(timed::<Chip>(list.settings, &list.ops, list.warm));
+        log.push(timed::<UndoLog>(list.settings, &list.ops, list.warm));
+    }
+    let calls = list.ops.len() - list.warm;
+    let ours = per_call(&blocks, calls);
+    let [singly, chip, log] = [singly, chip, log].map(|times| per_call(&times, calls));
+    table.line(list.name, "ours-single", ours, singly);
+    table.line(list.name, Chip::NAME, ours, chip);
+    table.line(list.name, UndoLog::NAME, ours, log);
+    [ours / log, singly / log]
+}
+
 /// What a read of ours takes that is refused for its width: the border, and the tests of state, lent lengths and width.
 fn refused() -> f64 {
     let mut store = <Store as Peer>::new(FINE);
@@ -272,6 +302,9 @@ pub fn run() -> Result<(), String> {
         compare_all(list)?;
     }
     compare_all(&long)?;
+    let in_blocks = workload::block(BLOCK, 200_000);
+    println!("{}", in_blocks.heading());
+    compare_blocks(&in_blocks)?;
     println!(
         "# every value read is the same on ours and on each peer, and on chip-rust every origin; on sqlite, those of the calls timed beside it"
     );
@@ -302,7 +335,11 @@ pub fn run() -> Result<(), String> {
         beside_sqlite(&mut table, list);
     }
     let (fine, tight) = (&lists[0], &lists[lists.len() - 1]);
+    let [in_a_block, singly] = blocks(&mut table, &in_blocks);
     latencies(&mut table, fine, &long);
     bars(&table, over(tight, fine));
+    println!(
+        "# block beside undo-log: {in_a_block:.2} by the block call, {singly:.2} by single WRITEs"
+    );
     all_measured(&table)
 }

@@ -38,6 +38,26 @@ impl Workload {
         &self.ops[..self.ops.len().min(self.warm + timed)]
     }
 
+    /// The list with reads behind each run of writes, of what these wrote, so that there is something to compare.
+    pub fn with_reads(&self) -> Workload {
+        let mut ops = Vec::new();
+        let mut run = Vec::new();
+        for op in &self.ops {
+            if let Op::Write { width, address, .. } = *op {
+                run.push(Op::Read { width, address });
+            } else {
+                ops.append(&mut run);
+            }
+            ops.push(*op);
+        }
+        Workload {
+            ops,
+            warm: 0,
+            firsts: Vec::new(),
+            ..*self
+        }
+    }
+
     /// The list without the writes that get 13, for peers that have no pages.
     pub fn accepted(&self) -> Workload {
         let is_accepted = |op: &Op| !matches!(op, Op::Refused { .. });
@@ -188,6 +208,32 @@ impl Maker {
         }
     }
 
+    /// A block of writes: four in five to a line that was written in it before, and so in the frame, the others to new ones.
+    fn block(&mut self) {
+        let mut lines = Vec::new();
+        for _ in 0..BLOCK_WRITES {
+            let line = if !lines.is_empty() && self.random.below(5) > 0 {
+                lines[self.random.below(lines.len() as u32) as usize]
+            } else {
+                self.new_line(&lines)
+            };
+            if !lines.contains(&line) {
+                lines.push(line);
+            }
+            self.write(line);
+        }
+    }
+
+    /// A line that is none of these.
+    fn new_line(&mut self, lines: &[u32]) -> u32 {
+        loop {
+            let line = self.line();
+            if !lines.contains(&line) {
+                return line;
+            }
+        }
+    }
+
     /// Writes until so many pages are needed, in frames of 20 each.
     fn fill(&mut self, pages: usize) {
         while self.needed < pages {
@@ -284,6 +330,25 @@ pub fn report(name: &'static str, settings: Settings, between: u32, calls: usize
         maker.advance_above(48, 32);
     }
     maker.done(name, warm)
+}
+
+/// How many writes a block of writes has.
+const BLOCK_WRITES: u32 = 64;
+
+/// A block of 64 writes between marks, with the report's rollbacks and advances. The frame of a mark gone back to gets one more.
+pub fn block(settings: Settings, calls: usize) -> Workload {
+    let mut maker = Maker::new(settings, 40.0, 64);
+    let mut warm = 0;
+    while warm == 0 || maker.ops.len() < warm + calls {
+        maker.block();
+        maker.mark();
+        maker.maybe_rollback();
+        maker.advance_above(48, 32);
+        if warm == 0 && maker.ops.len() >= 6000 {
+            warm = maker.ops.len();
+        }
+    }
+    maker.done("block", warm)
 }
 
 /// Some 240 live frames, and lines that are seldom written: addresses spread over all lines, so that few reads find their line in the cache

@@ -1,4 +1,4 @@
-/* Compiled with CALL = 0 it has to pass, and with 1 to 7 to be rejected, as each time the result of one call is not looked at. */
+/* Compiled with CALL = 0 it has to pass, and with 1 to 8 to be rejected, as each time the result of one call is not looked at. */
 #include "vcm.h"
 
 int main(void) {
@@ -23,6 +23,8 @@ int main(void) {
     vcm_read(&state, &memory, 1, 0);
 #elif CALL == 7
     vcm_line(&state, &memory, 0, bytes);
+#elif CALL == 8
+    vcm_write_block(&state, &memory, NULL, 0, NULL, 0);
 #endif
     return (int)(refusal + bytes[0]);
 }

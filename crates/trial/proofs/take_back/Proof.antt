@@ -1,7 +1,7 @@
 -- `trial::take_back` meets its contract: the promises of its calls, one after the other, are a run of demand 3. Assumes nothing.
 use mathlib.Core.Path.{_∙_}
 use borrow.Author.Needs.{needs}
-use Rattle.rules.specs.Promise.Run.{stop, next}
+use Rattle.rules.specs.Promise.RunBy.{stop, next}
 use Rattle.store.proofs.Demand3.{store-refusal, store-answers}
 use Rattle.trial.proofs.Gone.{taken-back}
 use Rattle.trial.proofs.take_back.Statement.{statement}

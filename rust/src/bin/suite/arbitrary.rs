@@ -26,14 +26,14 @@ pub struct Judge {
 }
 
 /// What there is to know of storage before a call.
-struct Known {
-    facts: Facts,
+pub struct Known {
+    pub facts: Facts,
     /// the history that it stands for, where it is well-formed
-    history: Option<Plain>,
+    pub history: Option<Plain>,
     failing: Vec<Clause>,
 }
 
-fn know(stored: &Stored) -> Known {
+pub fn know(stored: &Stored) -> Known {
     let facts = facts(&stored.state, &stored.memory);
     let is_readable = facts.fits && facts.lengths.covers(Lengths::of(facts.settings));
     let failing = if is_readable {
@@ -107,7 +107,7 @@ fn is_due(known: &mut Known, call: Call, given: Answer) -> Result<(), String> {
 }
 
 /// A refused call leaves state and memory as they are.
-fn is_untouched(stored: &Stored, before: &Stored) -> Result<(), String> {
+pub fn is_untouched(stored: &Stored, before: &Stored) -> Result<(), String> {
     let changed = stored.memory.changed(&before.memory);
     if stored.state != before.state || !changed.is_empty() {
         return Err(format!("refused, but the state or {changed:?} is touched"));
@@ -132,7 +132,7 @@ fn settings_after(known: &Known, call: Call) -> Settings {
 }
 
 /// What an accepted call leaves, on any storage: pieces that it does not write, memory past the need, and of the registers what is fixed.
-fn is_kept(stored: &Stored, before: &Stored, call: Call, need: Lengths) -> Result<(), String> {
+pub fn is_kept(stored: &Stored, before: &Stored, call: Call, need: Lengths) -> Result<(), String> {
     let changed = stored.memory.changed(&before.memory);
     if let Some(piece) = changed.iter().find(|piece| !writes(call).contains(piece)) {
         return Err(format!("it wrote to {piece}"));
@@ -304,7 +304,7 @@ fn is_fresh(stored: &Stored, before: &Stored, asked: Settings) -> Result<(), &'s
 }
 
 /// Storage made from that of a run, and how many calls in a row to make on it: random, damaged, or only changed where it does not matter.
-fn changed(rng: &Rng, world: &World, rows: u32) -> (Stored, u32) {
+pub fn changed(rng: &Rng, world: &World, rows: u32) -> (Stored, u32) {
     let mut stored = world.stored.clone();
     match rng.below(24) {
         0 | 1 => return (random_storage(rng), 4),

@@ -2,7 +2,7 @@
 use crate::memory::Memory;
 use crate::tally::Tally;
 use vcm::calls;
-use vcm::State;
+use vcm::{Item, State};
 
 #[derive(Clone, Copy, Debug, PartialEq, Eq)]
 pub enum Call {
@@ -27,6 +27,17 @@ pub enum Call {
     Advance(u32),
     Counts,
     Check,
+}
+
+impl Call {
+    /// An item of a block of writes as a call of its own.
+    pub fn of(item: Item) -> Call {
+        Call::Write {
+            width: item.width,
+            address: item.address,
+            value: item.value,
+        }
+    }
 }
 
 #[derive(Clone, Copy, Debug, PartialEq, Eq)]
@@ -99,6 +110,19 @@ impl Answer {
             _ => Answer::Outcome { refusal },
         }
     }
+}
+
+/// The library's refusal of a block of writes, or 0. State, memory and answers become those that the call leaves.
+pub fn ask_block(
+    state: &mut State,
+    memory: &mut Memory,
+    items: &[Item],
+    answers: &mut [u32],
+    tally: &mut Tally,
+) -> u32 {
+    let refusal = calls::write_block(state, &mut memory.lent(), items, answers);
+    tally.count_block(refusal, items.len(), answers);
+    refusal
 }
 
 /// The library's answer. The state and the memory become those that the call leaves.

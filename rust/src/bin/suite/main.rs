@@ -1,5 +1,6 @@
 //! The suite: the proved library against an independent plain store, an independent decision of well-formedness, and arbitrary
-//! state and memory. Its last line counts what was done; it is printed only if all of it passed.
+//! state and memory; and blocks of writes against the same writes sent singly. Its last line counts what was done; it is printed only
+//! if all of it passed.
 #![forbid(unsafe_code)]
 
 mod arbitrary;
@@ -22,6 +23,7 @@ mod tally;
 mod wellformed;
 mod world;
 mod wrapper;
+mod write_block;
 
 use std::panic::catch_unwind;
 use std::process::ExitCode;
@@ -36,6 +38,7 @@ struct Size {
     steps: u32,
     worlds: u32,
     row: u32,
+    blocks: u32,
 }
 
 const WHOLE: Size = Size {
@@ -46,6 +49,7 @@ const WHOLE: Size = Size {
     steps: 100_000,
     worlds: 3_000,
     row: 24,
+    blocks: 1_000,
 };
 
 /// For valgrind, which is slow.
@@ -57,6 +61,7 @@ const SMALL: Size = Size {
     steps: 3_000,
     worlds: 150,
     row: 10,
+    blocks: 40,
 };
 
 fn suite(size: Size) -> Result<Tally, String> {
@@ -72,10 +77,11 @@ fn suite(size: Size) -> Result<Tally, String> {
     let judge = arbitrary::run(size.worlds, size.row)?;
     println!("turned down by one clause alone: {}", judge.clauses()?);
     done("arbitrary", &judge.tally);
+    done("blocks", &write_block::run(size.blocks)?);
     if !all.is_balanced() {
         return Err(format!("too few CHECKs say yes: {all}"));
     }
-    if let Some(number) = (4..=13).find(|number| all.refusals[*number] == 0) {
+    if let Some(number) = (4..=14).find(|number| all.refusals[*number] == 0) {
         return Err(format!("refusal {number} never came"));
     }
     if all.sweeps == 0 {

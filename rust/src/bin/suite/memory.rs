@@ -96,6 +96,11 @@ pub struct Piece<T> {
 }
 
 impl<T: Copy + PartialEq> Piece<T> {
+    /// A piece with guards or without.
+    pub fn guarded(len: usize, rng: &Rng, fill: impl FnMut() -> T) -> Piece<T> {
+        Piece::new(len, rng.pick(&GUARDS), fill)
+    }
+
     fn new(len: usize, guard: usize, fill: impl FnMut() -> T) -> Piece<T> {
         // of exactly this size, with nothing behind it
         let mut buffer = Vec::with_capacity(len + 2 * guard);

@@ -2,6 +2,7 @@
 //! groups, tags, tables or owners.
 use crate::call::{Answer, Call, Origin};
 use crate::memory::Lengths;
+use vcm::Item;
 
 #[derive(Clone, Copy, Debug, PartialEq, Eq)]
 pub struct Settings {
@@ -31,6 +32,25 @@ pub struct Facts {
     pub lengths: Lengths,
 }
 
+/// 5, 6 or 0, by which every call but RESET goes first.
+fn unfit(facts: Facts) -> u32 {
+    if !facts.fits {
+        5
+    } else if !facts.lengths.covers(Lengths::of(facts.settings)) {
+        6
+    } else {
+        0
+    }
+}
+
+/// The refusal of a whole block of writes, or 0: "14, the answer list is shorter than the write list, tested after 6."
+pub fn block_refusal(facts: Facts, items: usize, answers: usize) -> u32 {
+    match unfit(facts) {
+        0 if answers < items => 14,
+        first => first,
+    }
+}
+
 /// The first refusal in order, or 0, but for 13.
 pub fn refusal(facts: Facts, call: Call) -> u32 {
     if let Call::Reset {
@@ -52,11 +72,9 @@ pub fn refusal(facts: Facts, call: Call) -> u32 {
             0
         };
     }
-    if !facts.fits {
-        return 5;
-    }
-    if !facts.lengths.covers(Lengths::of(facts.settings)) {
-        return 6;
+    let first = unfit(facts);
+    if first != 0 {
+        return first;
     }
     let size = 16 * u64::from(facts.settings.lines);
     let place = |width: u32, address: u32| {
@@ -201,14 +219,31 @@ impl Plain {
         self.clock += 1;
     }
 
-    pub fn answer(&mut self, call: Call, lengths: Lengths) -> Answer {
-        let facts = Facts {
+    fn facts(&self, lengths: Lengths) -> Facts {
+        Facts {
             settings: self.settings,
             fits: self.settings.within(),
             live: self.live(),
             lengths,
-        };
-        let refusal = refusal(facts, call);
+        }
+    }
+
+    /// "One call takes a list of writes and a list for answers, and does them in order; a refused item is skipped and the later ones still
+    /// tried. Answers, state, memory and cache end exactly as if the items had been sent singly .. Answers past the last item are
+    /// untouched."
+    pub fn block(&mut self, items: &[Item], answers: &mut [u32], lengths: Lengths) -> u32 {
+        let refusal = block_refusal(self.facts(lengths), items.len(), answers.len());
+        if refusal != 0 {
+            return refusal;
+        }
+        for (item, answer) in items.iter().zip(answers) {
+            *answer = self.answer(Call::of(*item), lengths).refusal();
+        }
+        0
+    }
+
+    pub fn answer(&mut self, call: Call, lengths: Lengths) -> Answer {
+        let refusal = refusal(self.facts(lengths), call);
         if refusal != 0 {
             return Answer::refused(call, refusal);
         }

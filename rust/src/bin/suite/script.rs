@@ -2,6 +2,7 @@
 use crate::call::Call;
 use crate::plain::Settings;
 use crate::rng::Rng;
+use vcm::Item;
 
 /// How often each call comes: write, read, line, companion, mark, rollback, advance.
 type Weights = [u32; 7];
@@ -30,6 +31,17 @@ enum Lines {
     Ends,
 }
 
+impl Lines {
+    fn of(rng: &Rng, settings: Settings) -> Lines {
+        match rng.below(6) {
+            0 | 1 => Lines::Any,
+            2 | 3 => Lines::Set(rng.below(16)),
+            4 => Lines::Block(rng.below(settings.lines / 8)),
+            _ => Lines::Ends,
+        }
+    }
+}
+
 pub struct Script {
     weights: Weights,
     lines: Lines,
@@ -50,12 +62,7 @@ impl Script {
         if self.left == 0 {
             self.left = rng.between(20, 400);
             self.weights = rng.pick(&PHASES);
-            self.lines = match rng.below(6) {
-                0 | 1 => Lines::Any,
-                2 | 3 => Lines::Set(rng.below(16)),
-                4 => Lines::Block(rng.below(settings.lines / 8)),
-                _ => Lines::Ends,
-            };
+            self.lines = Lines::of(rng, settings);
         }
         self.left -= 1;
         let total: u32 = self.weights.iter().sum();
@@ -72,16 +79,7 @@ impl Script {
     pub fn call(&self, rng: &Rng, kind: usize, settings: Settings, live: u32) -> Call {
         match kind {
             0 => {
-                let (width, address) = self.place(rng, settings.lines);
-                let value = match rng.below(24) {
-                    0 => rng.odd_word(),
-                    1 => 1u32.checked_shl(8 * width.min(8)).unwrap_or(0),
-                    2 => 1u32
-                        .checked_shl(8 * width.min(8))
-                        .unwrap_or(0)
-                        .wrapping_sub(1),
-                    _ => rng.word() & (u32::MAX >> (32 - 8 * width.clamp(1, 4))),
-                };
+                let (width, address, value) = self.write(rng, settings);
                 Call::Write {
                     width,
                     address,
@@ -100,6 +98,37 @@ impl Script {
             7 => Call::Counts,
             _ => Call::Check,
         }
+    }
+
+    /// A block of writes with so many items, of which some are refused.
+    pub fn items(rng: &Rng, settings: Settings, count: usize) -> Vec<Item> {
+        let mut script = Script::new();
+        script.lines = Lines::of(rng, settings);
+        let item = || {
+            let (width, address, value) = script.write(rng, settings);
+            Item {
+                width,
+                address,
+                value,
+            }
+        };
+        // of exactly this size, so that valgrind sees a read behind the last
+        let mut items = Vec::with_capacity(count);
+        items.resize_with(count, item);
+        items
+    }
+
+    /// Width, address and value.
+    fn write(&self, rng: &Rng, settings: Settings) -> (u32, u32, u32) {
+        let (width, address) = self.place(rng, settings.lines);
+        let past = 1u32.checked_shl(8 * width.min(8)).unwrap_or(0);
+        let value = match rng.below(24) {
+            0 => rng.odd_word(),
+            1 => past,
+            2 => past.wrapping_sub(1),
+            _ => rng.word() & (u32::MAX >> (32 - 8 * width.clamp(1, 4))),
+        };
+        (width, address, value)
     }
 
     fn line(&self, rng: &Rng, lines: u32) -> u32 {

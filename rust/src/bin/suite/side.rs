@@ -1,5 +1,5 @@
 //! The library side by side with the plain store: long random runs, every answer compared.
-use crate::call::{ask, Answer, Call};
+use crate::call::{ask, ask_block, Answer, Call};
 use crate::memory::{Lengths, Memory};
 use crate::plain::{Plain, Settings};
 use crate::rng::Rng;
@@ -7,8 +7,9 @@ use crate::script::{bad_settings, settings, Script};
 use crate::spot;
 use crate::tally::Tally;
 use crate::wellformed::{facts, Storage};
+use std::fmt;
 use vcm::calls;
-use vcm::State;
+use vcm::{Item, State};
 
 pub struct Pair {
     pub state: State,
@@ -51,8 +52,23 @@ impl Pair {
         Ok(given)
     }
 
+    /// A block of writes on both, with an answer list of this length.
+    fn block(&mut self, items: &[Item], room: usize, tally: &mut Tally) -> Result<(), String> {
+        let (mut given, mut expected) = (vec![u32::MAX; room], vec![u32::MAX; room]);
+        let refusal = ask_block(&mut self.state, &mut self.memory, items, &mut given, tally);
+        let due = self
+            .plain
+            .block(items, &mut expected, self.memory.lengths());
+        if refusal != due || given != expected {
+            return Err(format!(
+                "{items:?} get {refusal} and {given:?}, from the plain store {due} and {expected:?}"
+            ));
+        }
+        self.ring_agrees("a block")
+    }
+
     /// The segment of needed pages starts where it should and has as many as the plain store needs.
-    fn ring_agrees(&self, call: Call) -> Result<(), String> {
+    fn ring_agrees(&self, call: impl fmt::Debug) -> Result<(), String> {
         let ring = (self.state.registers.first, self.state.registers.used);
         let expected = (self.first, self.plain.pages());
         if ring != expected {
@@ -75,7 +91,7 @@ impl Pair {
 }
 
 /// A state that 5 is about: blank, or with one number out of its limits.
-fn bad_state(rng: &Rng, state: &State) -> State {
+pub fn bad_state(rng: &Rng, state: &State) -> State {
     let mut bad = *state;
     match rng.below(6) {
         0 => return calls::blank(),
@@ -139,6 +155,12 @@ fn run(seed: u64, first: Settings, steps: u32, tally: &mut Tally) -> Result<(), 
             81..=160 => {
                 let bad = bad_state(&rng, &pair.state);
                 pair.on_bad_state(bad, call, tally)
+                    .map_err(|words| fail(step, words))?;
+            }
+            161..=200 => {
+                let items = Script::items(&rng, now, rng.place(100));
+                let room = rng.pick(&[items.len(), items.len() + 3, items.len() / 2]);
+                pair.block(&items, room, tally)
                     .map_err(|words| fail(step, words))?;
             }
             _ => {}

@@ -3,12 +3,19 @@ use crate::call::{Answer, Call};
 use crate::spot;
 use std::fmt;
 
+/// The numbers that an item of a block of writes can get.
+pub const IN_BLOCKS: [usize; 5] = [7, 8, 9, 10, 13];
+
 #[derive(Clone, Default)]
 pub struct Tally {
     pub calls: u64,
     pub resets: u64,
     pub sweeps: u64,
-    pub refusals: [u64; 14],
+    /// blocks of writes that were not refused as a whole
+    pub blocks: u64,
+    /// their items by their answers, accepted ones at 0
+    pub items: [u64; 15],
+    pub refusals: [u64; 15],
     pub yes: u64,
     pub no: u64,
 }
@@ -29,6 +36,20 @@ impl Tally {
         }
     }
 
+    /// A block of writes with so many items, its refusal or 0, and its answer list.
+    pub fn count_block(&mut self, refusal: u32, items: usize, answers: &[u32]) {
+        self.refuse(refusal);
+        if refusal != 0 {
+            return;
+        }
+        self.blocks += 1;
+        for answer in answers.iter().take(items) {
+            if let Some(count) = self.items.get_mut(*answer as usize) {
+                *count += 1;
+            }
+        }
+    }
+
     /// A call and its refusal, or 0. A number that is no refusal is caught where answers are compared.
     pub fn refuse(&mut self, refusal: u32) {
         self.calls += 1;
@@ -42,6 +63,10 @@ impl Tally {
         self.calls += other.calls;
         self.resets += other.resets;
         self.sweeps += other.sweeps;
+        self.blocks += other.blocks;
+        for (count, more) in self.items.iter_mut().zip(other.items) {
+            *count += more;
+        }
         for (count, more) in self.refusals.iter_mut().zip(other.refusals) {
             *count += more;
         }
@@ -62,8 +87,15 @@ impl fmt::Display for Tally {
             "calls {} resets {} sweeps {} refusals",
             self.calls, self.resets, self.sweeps
         )?;
-        for number in 4..=13 {
+        for number in 4..=14 {
             write!(f, " {number}:{}", self.refusals[number])?;
+        }
+        if self.blocks > 0 {
+            let items: u64 = self.items.iter().sum();
+            write!(f, " blocks {} items {items} refused", self.blocks)?;
+            for number in IN_BLOCKS {
+                write!(f, " {number}:{}", self.items[number])?;
+            }
         }
         write!(f, " check yes:{} no:{}", self.yes, self.no)
     }

@@ -1,5 +1,5 @@
 //! The wrapper `Store` side by side with the plain store: the same answers as Rust types. Between calls it is saved and loaded again, and
-//! has trials, inside each other, some of which are kept.
+//! has trials, inside each other, some of which are kept, and both forms of a block of writes, in trials too.
 use crate::call::{Answer, Call, Origin};
 use crate::memory::Lengths;
 use crate::plain::{Plain, Settings};
@@ -7,7 +7,7 @@ use crate::rng::Rng;
 use crate::script::{bad_settings, Script};
 use crate::spot;
 use crate::tally::Tally;
-use vcm::{Counts, Reading, Refusal, Store, Trial};
+use vcm::{Counts, FirstRefusal, Item, Reading, Refusal, Store, Trial};
 
 fn number<T>(answer: &Result<T, Refusal>) -> u32 {
     match answer {
@@ -102,6 +102,45 @@ fn ask_trial(trial: &mut Trial, call: Call) -> Option<Answer> {
     })
 }
 
+/// An answer that no block gives: what stands in an answer list before the call.
+const BEFORE: Result<(), Refusal> = Err(Refusal::Unknown(77));
+
+/// The two forms of a block of writes, of a store and of a trial.
+trait Blocks {
+    fn block(&mut self, items: &[Item], answers: &mut [Result<(), Refusal>])
+        -> Result<(), Refusal>;
+
+    fn all(&mut self, items: &[Item]) -> Result<(), FirstRefusal>;
+}
+
+impl Blocks for Store {
+    fn block(
+        &mut self,
+        items: &[Item],
+        answers: &mut [Result<(), Refusal>],
+    ) -> Result<(), Refusal> {
+        self.write_block(items, answers)
+    }
+
+    fn all(&mut self, items: &[Item]) -> Result<(), FirstRefusal> {
+        self.write_all(items)
+    }
+}
+
+impl Blocks for Trial<'_> {
+    fn block(
+        &mut self,
+        items: &[Item],
+        answers: &mut [Result<(), Refusal>],
+    ) -> Result<(), Refusal> {
+        self.write_block(items, answers)
+    }
+
+    fn all(&mut self, items: &[Item]) -> Result<(), FirstRefusal> {
+        self.write_all(items)
+    }
+}
+
 /// Memory that is always long enough: the wrapper has its own.
 const ENOUGH: Lengths = Lengths {
     archive: usize::MAX,
@@ -132,6 +171,57 @@ impl Beside<'_> {
         ))
     }
 
+    /// A block of writes with up to 200 items, by one of its two forms.
+    fn block(&mut self, on: &mut impl Blocks) -> Result<(), String> {
+        let most = self.rng.pick(&[3, 64, 65, 200]);
+        let count = self.rng.between(0, most) as usize;
+        let items = Script::items(self.rng, self.plain.settings, count);
+        if self.rng.one_in(2) {
+            self.answered(on, &items)
+        } else {
+            self.first_told(on, &items)
+        }
+    }
+
+    /// The form with answers, in a list that is now and then too short or longer.
+    fn answered(&mut self, on: &mut impl Blocks, items: &[Item]) -> Result<(), String> {
+        let room = match self.rng.below(4) {
+            0 => items.len().saturating_sub(1),
+            1 => items.len() + 1 + self.rng.place(70),
+            _ => items.len(),
+        };
+        let mut answers = vec![BEFORE; room];
+        let given = number(&on.block(items, &mut answers));
+        let mut numbers = vec![77; room];
+        let expected = self.plain.block(items, &mut numbers, ENOUGH);
+        self.tally.count_block(given, items.len(), &numbers);
+        if given != expected || answers.iter().map(number).ne(numbers) {
+            return Err(format!(
+                "{items:?} with {room} answers: {given}, the plain store {expected}, or another answer"
+            ));
+        }
+        Ok(())
+    }
+
+    /// The form that gives the first refusal alone. That the later items are tried the comparisons that follow show.
+    fn first_told(&mut self, on: &mut impl Blocks, items: &[Item]) -> Result<(), String> {
+        let given = on.all(items);
+        let mut numbers = vec![77; items.len()];
+        let refusal = self.plain.block(items, &mut numbers, ENOUGH);
+        self.tally.count_block(refusal, items.len(), &numbers);
+        let place = numbers.iter().position(|number| *number != 0);
+        let expected = place.map(|place| (place, numbers[place]));
+        let first = given
+            .err()
+            .map(|first| (first.place, first.refusal.number()));
+        if first != expected {
+            return Err(format!(
+                "{items:?}: first refused {first:?}, the plain store {expected:?}"
+            ));
+        }
+        Ok(())
+    }
+
     /// A trial with calls and trials inside, which then is kept or dropped. The plain store marks for it and, where it is dropped, goes
     /// back to as many live frames as it had.
     fn tries(&mut self, opened: Result<Trial, Refusal>, depth: u32) -> Result<(), String> {
@@ -149,6 +239,9 @@ impl Beside<'_> {
         for _ in 0..self.rng.below(12) {
             if depth > 0 && self.rng.one_in(4) {
                 self.tries(trial.trial(), depth - 1)?;
+            }
+            if self.rng.one_in(8) {
+                self.block(&mut trial)?;
             }
             let call = match self.rng.below(8) {
                 0 => Call::Counts,
@@ -197,16 +290,21 @@ pub fn run(steps: u32) -> Result<Tally, String> {
             store = Store::load(&bytes)
                 .map_err(|error| format!("wrapper, seed {seed:#x}, step {step}: {error}"))?;
         }
+        let mut beside = Beside {
+            plain: &mut plain,
+            script: &mut script,
+            rng: &rng,
+            tally: &mut tally,
+        };
         if rng.one_in(200) {
-            let mut beside = Beside {
-                plain: &mut plain,
-                script: &mut script,
-                rng: &rng,
-                tally: &mut tally,
-            };
             beside
                 .tries(store.trial(), 3)
                 .map_err(|words| format!("trial, seed {seed:#x}, step {step}: {words}"))?;
+        }
+        if rng.one_in(200) {
+            beside
+                .block(&mut store)
+                .map_err(|words| format!("block, seed {seed:#x}, step {step}: {words}"))?;
         }
         let mut call = script.next(&rng, plain.settings, plain.live());
         let asked = match rng.below(6000) {

@@ -1,0 +1,115 @@
+-- `access::write_admitted` meets its contract. Assumes nothing.
+use mathlib.Core.Path.{refl, sym, _∙_}
+use Rattle.storage.proofs.Admitting.{room-passed, room-turn}
+use Rattle.storage.proofs.Seeing.{seen-page-asks, seen-page, seen-used}
+use Rattle.storage.proofs.Chains.{admitted-on, write-room}
+use Rattle.storage.proofs.Storing.{write-refused, asks-write, write-full, write-done}
+use borrow.Author.Needs.{needs}
+use Rattle.access.proofs.write_admitted.Statement.{statement}
+use Rattle.access.proofs.write_admitted.Tie as tie
+
+-- the start, from the place of the tests
+abbrev start-at : tie.After-write-refusal → tie.Start
+start-at w = let m = w .before .before .before .before in m .before .before .before
+
+write-refusal-requires : tie.Need-write-refusal-requires
+write-refusal-requires c κs = let s : tie.Start = search in let r = room-passed _ _ (s .pre) in (r .lines-from, r .lines-to)
+
+returns : tie.Need-returns
+returns c =
+    let s : tie.Start = search in
+    let w : tie.After-write-refusal = search in
+    write-refused _ _ _ _ _ (admitted-on _ _ 0 (sym (s .pre)) refl _ _ (w .write-refusal .ensures)) (c .if1 .taken)
+
+live-requires : tie.Need-live-requires
+live-requires c κs = let s : tie.Start = search in room-turn _ _ (room-passed _ _ (s .pre))
+
+ring-requires : tie.Need-ring-requires
+ring-requires c κs = search needs
+
+page-for-requires : tie.Need-page-for-requires
+page-for-requires c κs =
+    let r : tie.After-ring = search in
+    let e : tie.Else1 = search in
+    let w = e .before in
+    let told = admitted-on _ _ 0 (sym (start-at w .pre)) refl _ _ (w .write-refusal .ensures) in
+    let g = write-room _ _ _ _ _ _ told (e .if1 .left) .0 in
+    seen-page-asks _ _ (g .room) _ _ _ (r .ring .ensures) _ (g .line-below)
+
+enum-known-found : tie.Need-enum-known-found
+enum-known-found c = search needs
+
+put-value-requires : tie.Need-put-value-requires
+put-value-requires c κs =
+    let f : tie.After-found = search in
+    let p : tie.After-page-for = search in
+    let r : tie.After-ring = search in
+    let l : tie.After-live = search in
+    let e : tie.Else1 = search in
+    let w = e .before in
+    let told = admitted-on _ _ 0 (sym (start-at w .pre)) refl _ _ (w .write-refusal .ensures) in
+    asks-write _ _ _ _ _ told (e .if1 .left) _ _ (l .live .ensures) (sym (seen-page _ _ _ _ _ _ _ (r .ring .ensures) _ _ _ _ _ (p .page-for .ensures .0)) ∙ f .found .given .1)
+
+enum-told : tie.Need-enum-told
+enum-told c = search needs
+
+same-length : tie.Need-same-length
+same-length c = search needs
+
+same-length-2 : tie.Need-same-length-2
+same-length-2 c = search needs
+
+same-length-3 : tie.Need-same-length-3
+same-length-3 c = search needs
+
+same-length-4 : tie.Need-same-length-4
+same-length-4 c = search needs
+
+returns-2 : tie.Need-returns-2
+returns-2 c =
+    let v : tie.After-put-value = search in
+    let f : tie.After-found = search in
+    let p : tie.After-page-for = search in
+    let r : tie.After-ring = search in
+    let l : tie.After-live = search in
+    let e : tie.Else1 = search in
+    let w = e .before in
+    let told = admitted-on _ _ 0 (sym (start-at w .pre)) refl _ _ (w .write-refusal .ensures) in
+    write-done _ _ _ _ _ told (e .if1 .left) _ (seen-page _ _ _ _ _ _ _ (r .ring .ensures) _ _ _ _ _ (p .page-for .ensures .0)) _ (f .found .given .1) _ (l .live .ensures) _ _ (v .put-value .ensures) _
+    (seen-used _ _ _ _ _ _ _ (r .ring .ensures) _ _ _ _ _ (p .page-for .ensures .1))
+
+same-length-5 : tie.Need-same-length-5
+same-length-5 c = search needs
+
+same-length-6 : tie.Need-same-length-6
+same-length-6 c = search needs
+
+returns-3 : tie.Need-returns-3
+returns-3 c =
+    let p : tie.After-page-for = search in
+    let r : tie.After-ring = search in
+    let e : tie.Else1 = search in
+    let w = e .before in
+    let told = admitted-on _ _ 0 (sym (start-at w .pre)) refl _ _ (w .write-refusal .ensures) in
+    write-full _ _ _ _ _ told (e .if1 .left) (sym (seen-page _ _ _ _ _ _ _ (r .ring .ensures) _ _ _ _ _ (p .page-for .ensures .0)) ∙ c .enum-told .given .1)
+
+pub write-admitted-spec : {M : Type 1} → statement M
+write-admitted-spec =
+    tie.close
+    (tie.spec
+    write-refusal-requires
+    returns
+    live-requires
+    ring-requires
+    page-for-requires
+    enum-known-found
+    put-value-requires
+    enum-told
+    same-length
+    same-length-2
+    same-length-3
+    same-length-4
+    returns-2
+    same-length-5
+    same-length-6
+    returns-3)

@@ -347,8 +347,8 @@ vcm_step vcm_raw_write(vcm_registers registers, uint32_t held[32], uint16_t orig
                        uint8_t last[16], const uint8_t *archive, size_t archive_len, uint8_t *pool, size_t pool_len,
                        uint32_t *groups, size_t groups_len, uint16_t *table, size_t table_len, uint32_t *owners, size_t owners_len,
                        const uint16_t *history, size_t history_len, uint32_t width, uint32_t address, uint32_t value);
-/* The items as numbers: width, address and value of one after the other. items_len is three times their count; one or two numbers behind the
- * last item are none. */
+/* The items as numbers: width, address and value of one after the other. items_len is three times their count; one or two numbers left
+ * over at the end are no item. */
 vcm_step vcm_raw_write_block(vcm_registers registers, uint32_t held[32], uint16_t origins[32], uint8_t valid[32], uint8_t bytes[512],
                              uint8_t last[16], const uint8_t *archive, size_t archive_len, uint8_t *pool, size_t pool_len,
                              uint32_t *groups, size_t groups_len, uint16_t *table, size_t table_len, uint32_t *owners,

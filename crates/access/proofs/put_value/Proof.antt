@@ -19,14 +19,8 @@ shape-at e =
 abbrev start-at : tie.After-edited → tie.Start
 start-at e = shape-at e .before .before .before .before .before .before .before
 
-shape-requires : tie.Need-shape-requires
-shape-requires c κs = search needs
-
 latest-requires : tie.Need-latest-requires
 latest-requires c κs = let s : tie.Start = search in let h : tie.After-shape = search in rw (h .shape .ensures) (s .pre .newest)
-
-edited-requires : tie.Need-edited-requires
-edited-requires c κs = search needs
 
 sub-put : tie.Need-sub-put
 sub-put c = let s : tie.Start = search in omega (arith, s .pre .newest .live-some)
@@ -36,21 +30,6 @@ put-requires c κs = let e : tie.After-edited = search in rw (shape-at e .shape 
 
 cast-frame : tie.Need-cast-frame
 cast-frame c = let p : tie.After-put = search in let s = start-at (edited-at p) in omega (arith, s .pre .cmf-below, s .pre .newest .asks .lent .frames-few)
-
-place-requires : tie.Need-place-requires
-place-requires c κs = search needs
-
-same-length : tie.Need-same-length
-same-length c = search needs
-
-same-length-2 : tie.Need-same-length-2
-same-length-2 c = search needs
-
-same-length-3 : tie.Need-same-length-3
-same-length-3 c = search needs
-
-same-length-4 : tie.Need-same-length-4
-same-length-4 c = search needs
 
 returns : tie.Need-returns
 returns c =
@@ -67,15 +46,15 @@ pub put-value-spec : {M : Type 1} → statement M
 put-value-spec =
     tie.close
     (tie.spec
-    shape-requires
+    (λ c κs. search needs)
     latest-requires
-    edited-requires
+    (λ c κs. search needs)
     sub-put
     put-requires
     cast-frame
-    place-requires
-    same-length
-    same-length-2
-    same-length-3
-    same-length-4
+    (λ c κs. search needs)
+    (λ c. search needs)
+    (λ c. search needs)
+    (λ c. search needs)
+    (λ c. search needs)
     returns)

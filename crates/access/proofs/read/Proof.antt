@@ -9,21 +9,9 @@ use borrow.Author.Needs.{needs}
 use Rattle.access.proofs.read.Statement.{statement}
 use Rattle.access.proofs.read.Tie as tie
 
-measure-requires : tie.Need-measure-requires
-measure-requires c κs = search needs
-
-admit-place-requires : tie.Need-admit-place-requires
-admit-place-requires c κs = search needs
-
 returns : tie.Need-returns
 unfolding originOf
 returns c = read-refused _ _ _ _ (measured _ _ (c .before .before .measure .ensures) (c .before .admit-place .ensures .0)) (c .if1 .taken)
-
-find-requires : tie.Need-find-requires
-find-requires c κs = search needs
-
-enum-known-entry : tie.Need-enum-known-entry
-enum-known-entry c = search needs
 
 line-at-requires : tie.Need-line-at-requires
 line-at-requires c κs = search found-below
@@ -33,9 +21,6 @@ recall-requires c κs = search found-below
 
 value-of-requires : tie.Need-value-of-requires
 value-of-requires c κs = let e : tie.Else1 = search in e .before .admit-place .ensures .1 (e .if1 .left) .bytes
-
-enum-told : tie.Need-enum-told
-enum-told c = search needs
 
 live-requires : tie.Need-live-requires
 live-requires c κs = let e : tie.Else1 = search in room-turn _ _ (e .before .admit-place .ensures .1 (e .if1 .left) .room)
@@ -76,15 +61,15 @@ pub read-spec : {M : Type 1} → statement M
 read-spec =
     tie.close
     (tie.spec
-    measure-requires
-    admit-place-requires
+    (λ c κs. search needs)
+    (λ c κs. search needs)
     returns
-    find-requires
-    enum-known-entry
+    (λ c κs. search needs)
+    (λ c. search needs)
     line-at-requires
     recall-requires
     value-of-requires
-    enum-told
+    (λ c. search needs)
     live-requires
     load-requires
     value-of-requires-2

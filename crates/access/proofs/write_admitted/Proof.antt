@@ -24,9 +24,6 @@ returns c =
 live-requires : tie.Need-live-requires
 live-requires c κs = let s : tie.Start = search in room-turn _ _ (room-passed _ _ (s .pre))
 
-ring-requires : tie.Need-ring-requires
-ring-requires c κs = search needs
-
 page-for-requires : tie.Need-page-for-requires
 page-for-requires c κs =
     let r : tie.After-ring = search in
@@ -35,9 +32,6 @@ page-for-requires c κs =
     let told = admitted-on _ _ 0 (sym (start-at w .pre)) refl _ _ (w .write-refusal .ensures) in
     let g = write-room _ _ _ _ _ _ told (e .if1 .left) .0 in
     seen-page-asks _ _ (g .room) _ _ _ (r .ring .ensures) _ (g .line-below)
-
-enum-known-found : tie.Need-enum-known-found
-enum-known-found c = search needs
 
 put-value-requires : tie.Need-put-value-requires
 put-value-requires c κs =
@@ -49,21 +43,6 @@ put-value-requires c κs =
     let w = e .before in
     let told = admitted-on _ _ 0 (sym (start-at w .pre)) refl _ _ (w .write-refusal .ensures) in
     asks-write _ _ _ _ _ told (e .if1 .left) _ _ (l .live .ensures) (sym (seen-page _ _ _ _ _ _ _ (r .ring .ensures) _ _ _ _ _ (p .page-for .ensures .0)) ∙ f .found .given .1)
-
-enum-told : tie.Need-enum-told
-enum-told c = search needs
-
-same-length : tie.Need-same-length
-same-length c = search needs
-
-same-length-2 : tie.Need-same-length-2
-same-length-2 c = search needs
-
-same-length-3 : tie.Need-same-length-3
-same-length-3 c = search needs
-
-same-length-4 : tie.Need-same-length-4
-same-length-4 c = search needs
 
 returns-2 : tie.Need-returns-2
 returns-2 c =
@@ -77,12 +56,6 @@ returns-2 c =
     let told = admitted-on _ _ 0 (sym (start-at w .pre)) refl _ _ (w .write-refusal .ensures) in
     write-done _ _ _ _ _ told (e .if1 .left) _ (seen-page _ _ _ _ _ _ _ (r .ring .ensures) _ _ _ _ _ (p .page-for .ensures .0)) _ (f .found .given .1) _ (l .live .ensures) _ _ (v .put-value .ensures) _
     (seen-used _ _ _ _ _ _ _ (r .ring .ensures) _ _ _ _ _ (p .page-for .ensures .1))
-
-same-length-5 : tie.Need-same-length-5
-same-length-5 c = search needs
-
-same-length-6 : tie.Need-same-length-6
-same-length-6 c = search needs
 
 returns-3 : tie.Need-returns-3
 returns-3 c =
@@ -100,16 +73,16 @@ write-admitted-spec =
     write-refusal-requires
     returns
     live-requires
-    ring-requires
+    (λ c κs. search needs)
     page-for-requires
-    enum-known-found
+    (λ c. search needs)
     put-value-requires
-    enum-told
-    same-length
-    same-length-2
-    same-length-3
-    same-length-4
+    (λ c. search needs)
+    (λ c. search needs)
+    (λ c. search needs)
+    (λ c. search needs)
+    (λ c. search needs)
     returns-2
-    same-length-5
-    same-length-6
+    (λ c. search needs)
+    (λ c. search needs)
     returns-3)

@@ -1,4 +1,5 @@
 // Runs the document's cases at the edges and long pseudo-random runs on the store beside a second plain store, and compares every answer.
+mod block;
 mod subject;
 mod tally;
 
@@ -6,14 +7,19 @@ use choices::asked;
 use choices::asked::Asked;
 use choices::choice;
 use choices::choice::Run;
+use choices::counts;
+use choices::counts::Tally;
+use choices::items;
 use choices::rows;
-use choices::rows::Row;
+use choices::rows::Turn;
 use copies::Answer;
+use copies::Answered;
 use copies::Plain;
+use copies::pieces;
 use libc::STDIN_FILENO;
 use libc::STDOUT_FILENO;
 use store::State;
-use tally::Tally;
+use subject::Told;
 
 // Both stores, where the rows and the run are, the kind of the last call, and the counts.
 struct Game {
@@ -22,12 +28,6 @@ struct Game {
     run: Run,
     kind: u32,
     tally: Tally,
-}
-
-// A call, and where the rows and the run are behind it.
-struct Turn {
-    asked: Asked,
-    run: Run,
 }
 
 fn start() -> Game {
@@ -42,10 +42,11 @@ fn start() -> Game {
             every: 0,
             seed: 0,
             place: 0,
+            list: 0,
             lent: asked::WHOLE,
         },
         kind: rows::TITLE,
-        tally: tally::empty(),
+        tally: counts::empty(),
     }
 }
 
@@ -55,28 +56,6 @@ fn print_row(script: &[u8], at: usize, next: usize) {
     if at <= end && end <= script.len() {
         io::write_all(STDOUT_FILENO, &script[at..end]);
     }
-}
-
-// A row that is no start of a run is a call, or says which piece is short from here on.
-fn row_turn(script: &[u8], row: Row, run: Run) -> Turn {
-    let fields = row.fields;
-    let mut after = run;
-    after.place = row.next;
-    if row.kind == rows::SHORT {
-        after.lent = rows::lent_at(script, run.place);
-    }
-    if row.kind != rows::BEGIN {
-        let asked = rows::call_of(row, run.lent);
-        return Turn { asked, run: after };
-    }
-    after.lines = fields[1];
-    after.frames = fields[2];
-    after.pages = fields[3];
-    after.left = fields[4];
-    after.every = fields[5];
-    after.seed = fields[6];
-    let asked = asked::call(copies::RESET, fields[1], fields[2], fields[3], run.lent);
-    Turn { asked, run: after }
 }
 
 // The next call, of the run or of the rows, by the numbers of the plain store.
@@ -94,7 +73,7 @@ fn next(run: Run, script: &[u8], lines: usize, frames: usize, live: usize) -> Tu
     if row.kind != rows::END {
         print_row(script, run.place, row.next);
     }
-    row_turn(script, row, run)
+    rows::turn_of(script, row, run)
 }
 
 // What is printed behind a call: the answer to a row, the differences behind a run.
@@ -112,6 +91,33 @@ fn print_end(kind: u32, before: usize, left: usize, answer: Answer, tally: Tally
     io::write_all(STDOUT_FILENO, b"\n");
 }
 
+// The call is counted and printed, and the next one comes.
+fn ended(game: Game, turn: Turn, told: Told, both: Answered) -> Game {
+    let before = game.state;
+    let run = game.run;
+    let after = turn.run;
+    let asked = turn.asked;
+    let call = asked.call;
+    let state = subject::kept(before, call, told);
+    let answers = told.answers;
+    if run.left == 0 && call.kind == copies::BLOCK {
+        tally::print_answers(answers, items::answers_lent(call));
+    }
+    let turned = state.registers.cmf < before.registers.cmf;
+    let swept = state.registers.tag == 0;
+    let deed = counts::deed(call.kind, both.expected, turned, swept);
+    let tally = tally::judged(game.tally, call, deed, both.told, both.expected);
+    print_end(call.kind, run.left, after.left, both.told, tally);
+    let plain = both.plain;
+    Game {
+        state,
+        plain,
+        run: after,
+        kind: call.kind,
+        tally,
+    }
+}
+
 // A call on both stores.
 fn step(
     game: Game,
@@ -124,41 +130,36 @@ fn step(
     memory: &mut [u32],
     script: &[u8],
 ) -> Game {
-    let state = game.state;
     let plain = game.plain;
-    let run = game.run;
-    let tally = game.tally;
-    let turn = next(run, script, plain.lines, plain.frames, plain.live);
+    let turn = next(game.run, script, plain.lines, plain.frames, plain.live);
     let asked = turn.asked;
-    let call = asked.call;
-    let after = turn.run;
-    let made = subject::call(
-        state,
+    let source = items::source_of(game.run, plain.lines);
+    let played = subject::call(
+        game.state,
         archive,
         pool,
         groups,
         table,
         owners,
         history,
+        script,
+        source,
         asked,
         plain,
     );
-    let told = made.told;
-    let reply = copies::step(memory, plain, call, made.lent);
-    let answer = told.answer;
-    let expected = reply.answer;
-    let state_after = told.state;
-    let plain_after = reply.plain;
-    let deed = tally::deed(call.kind, expected, state.registers, state_after.registers);
-    let counted = tally::judged(tally, call, deed, answer, expected);
-    print_end(call.kind, run.left, after.left, answer, counted);
-    Game {
-        state: state_after,
-        plain: plain_after,
-        run: after,
-        kind: call.kind,
-        tally: counted,
-    }
+    let told = played.told;
+    let answers = told.answers;
+    let both = items::beside(
+        memory,
+        plain,
+        asked.call,
+        script,
+        source,
+        played.lent,
+        answers,
+        told.answer,
+    );
+    ended(game, turn, told, both)
 }
 
 // All calls of all rows and runs, one after the other, on both stores.
@@ -196,22 +197,23 @@ fn play(
 fn print_all(game: Game) {
     let plain = game.plain;
     let cache = plain.cache;
+    let blocks = plain.blocks;
     let mut tally = game.tally;
-    tally.n[28] = plain.highest;
-    tally.n[29] = plain.rooms;
-    tally.n[30] = cache.conflicts;
-    tally::print(tally);
+    tally.n[30] = plain.highest;
+    tally.n[31] = plain.rooms;
+    tally.n[32] = cache.conflicts;
+    tally::print(tally, blocks);
 }
 
-// Memory for the largest settings, and for the copies: 256 live frames up to L = 512, 31 at L = 4,096. The rows come on standard input.
+// Memory for the largest settings, and for the copies. The rows come on standard input.
 fn main() {
-    let mut archive = [0u8; 65536];
-    let mut pool = [0u8; 524288];
-    let mut groups = [0u32; 65536];
-    let mut table = [0u16; 131072];
-    let mut owners = [0u32; 4096];
-    let mut history = [0u16; 256];
-    let mut memory = [0u32; 542784];
+    let mut archive = io::large_buffer();
+    let mut pool = pieces::pool_room();
+    let mut groups = pieces::groups_room();
+    let mut table = pieces::table_room();
+    let mut owners = pieces::owners_room();
+    let mut history = pieces::history_room();
+    let mut memory = copies::room();
     let mut script = io::large_buffer();
     io::read_full(STDIN_FILENO, &mut script);
     let game = play(

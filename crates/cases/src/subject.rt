@@ -1,19 +1,23 @@
 // The store under test: the memory and the state are lent as asked for, the call is made, and its answer is written down.
+use crate::block;
 use choices::asked;
 use choices::asked::Asked;
+use choices::items::Source;
 use copies::Answer;
 use copies::Call;
 use copies::Lengths;
 use copies::Plain;
+use copies::pieces;
 use store::Origin;
 use store::Outcome;
 use store::State;
 ghost use Prim.Native.Nat.{_≤_};
 
-// The state after a call, and its answer.
+// The state after a call, its answer, and those to the items of a block.
 pub struct Told {
     pub state: State,
     pub answer: Answer,
+    pub answers: [u32; 256],
 }
 
 // A call that was made, and how much of each piece was lent to it.
@@ -23,7 +27,7 @@ pub struct Played {
 }
 
 // An answer with these numbers.
-fn said(refusal: u32, first: usize, second: usize, third: usize) -> Answer {
+pub fn said(refusal: u32, first: usize, second: usize, third: usize) -> Answer {
     Answer {
         refusal: refusal as usize,
         first,
@@ -32,37 +36,18 @@ fn said(refusal: u32, first: usize, second: usize, third: usize) -> Answer {
     }
 }
 
-// A call that answers no more than its refusal.
-fn outcome(made: Outcome) -> Told {
-    let state = made.state;
+// A call of no items.
+fn single(state: State, answer: Answer) -> Told {
     Told {
         state,
-        answer: said(made.refusal, 0, 0, 0),
+        answer,
+        answers: pieces::unanswered(),
     }
 }
 
-fn write(
-    state: State,
-    archive: &[u8],
-    pool: &mut [u8],
-    groups: &mut [u32],
-    table: &mut [u16],
-    owners: &mut [u32],
-    history: &[u16],
-    call: Call,
-) -> Outcome {
-    store::write(
-        state,
-        archive,
-        pool,
-        groups,
-        table,
-        owners,
-        history,
-        call.a,
-        call.b,
-        call.c,
-    )
+// A call that answers no more than its refusal.
+fn outcome(made: Outcome) -> Told {
+    single(made.state, said(made.refusal, 0, 0, 0))
 }
 
 // A call that opens, drops or collects frames, or a RESET.
@@ -117,11 +102,42 @@ fn flag(yes: bool) -> usize {
     0
 }
 
-// A call that leaves the lent memory as it is.
-fn look(
+fn wide(byte: u8) -> usize {
+    byte as usize
+}
+
+// The number that up to 8 bytes of a lent line make.
+fn number(line: &[u8], from: usize) -> usize {
+    let mut n: usize = 0;
+    for i in from..from % 16 + 8 {
+        if i < line.len() {
+            n = (n << 8) | wide(line[i]);
+        }
+    }
+    n
+}
+
+// LINE: the part that it lends, and the refusal that its companion gives on the same arguments.
+fn line<'a>(
     state: State,
-    archive: &[u8],
-    pool: &[u8],
+    archive: &'a [u8],
+    pool: &'a [u8],
+    groups: &[u32],
+    table: &[u16],
+    owners: &[u32],
+    history: &[u16],
+    line: u32,
+) -> Answer {
+    let refusal = store::line_refusal(state, archive, pool, groups, table, owners, history, line);
+    let lent = store::line(state, archive, pool, groups, table, owners, history, line);
+    said(refusal, number(lent, 0), number(lent, 8), lent.len())
+}
+
+// A call that leaves the lent memory as it is.
+fn look<'a>(
+    state: State,
+    archive: &'a [u8],
+    pool: &'a [u8],
     groups: &[u32],
     table: &[u16],
     owners: &[u32],
@@ -143,66 +159,27 @@ fn look(
         let after = made.state;
         let origin = made.origin;
         let answer = said(made.refusal, made.value as usize, origin_of(origin), 0);
-        return Told {
-            state: after,
-            answer,
-        };
+        return single(after, answer);
+    }
+    if call.kind == copies::LINE {
+        let answer = line(state, archive, pool, groups, table, owners, history, call.a);
+        return single(state, answer);
     }
     if call.kind == copies::COUNTS {
         let made = store::counts(state, archive, pool, groups, table, owners, history);
         let answer = said(made.refusal, made.live as usize, made.pages as usize, 0);
-        return Told { state, answer };
+        return single(state, answer);
     }
     let made = store::check(state, archive, pool, groups, table, owners, history);
     let answer = said(made.refusal, flag(made.yes), 0, 0);
-    Told { state, answer }
+    single(state, answer)
 }
 
-fn wide(byte: u8) -> usize {
-    byte as usize
-}
-
-// The number that up to 8 bytes of a lent line make.
-fn number(line: &[u8], from: usize) -> usize {
-    let mut n: usize = 0;
-    for i in from..from % 16 + 8 {
-        if i < line.len() {
-            n = (n << 8) | wide(line[i]);
-        }
+fn is_look(kind: u32) -> bool {
+    match kind {
+        copies::READ | copies::LINE | copies::COUNTS | copies::CHECK => true,
+        _ => false,
     }
-    n
-}
-
-// The part that LINE lends.
-fn lent_line<'a>(
-    state: State,
-    archive: &'a [u8],
-    pool: &'a [u8],
-    groups: &[u32],
-    table: &[u16],
-    owners: &[u32],
-    history: &[u16],
-    line: u32,
-) -> Answer {
-    let lent = store::line(state, archive, pool, groups, table, owners, history, line);
-    said(0, number(lent, 0), number(lent, 8), lent.len())
-}
-
-// LINE, with the refusal that its companion gives on the same arguments.
-fn line<'a>(
-    state: State,
-    archive: &'a [u8],
-    pool: &'a [u8],
-    groups: &[u32],
-    table: &[u16],
-    owners: &[u32],
-    history: &[u16],
-    line: u32,
-) -> Answer {
-    let mut answer = lent_line(state, archive, pool, groups, table, owners, history, line);
-    let refusal = store::line_refusal(state, archive, pool, groups, table, owners, history, line);
-    answer.refusal = refusal as usize;
-    answer
 }
 
 // The call, on what is lent.
@@ -214,17 +191,40 @@ fn made(
     table: &mut [u16],
     owners: &mut [u32],
     history: &mut [u16],
+    script: &[u8],
+    source: Source,
     call: Call,
 ) -> Told {
-    if call.kind == copies::LINE {
-        let answer = line(state, archive, pool, groups, table, owners, history, call.a);
-        return Told { state, answer };
-    }
-    if call.kind == copies::READ || call.kind == copies::COUNTS || call.kind == copies::CHECK {
+    if is_look(call.kind) {
         return look(state, archive, pool, groups, table, owners, history, call);
     }
+    if call.kind == copies::BLOCK {
+        return block::call(
+            state,
+            archive,
+            pool,
+            groups,
+            table,
+            owners,
+            history,
+            script,
+            source,
+            call,
+        );
+    }
     if call.kind == copies::WRITE {
-        return outcome(write(state, archive, pool, groups, table, owners, history, call));
+        return outcome(store::write(
+            state,
+            archive,
+            pool,
+            groups,
+            table,
+            owners,
+            history,
+            call.a,
+            call.b,
+            call.c,
+        ));
     }
     outcome(turn(state, archive, pool, groups, table, owners, history, call))
 }
@@ -261,13 +261,12 @@ fn given(state: State, call: Call) -> State {
     state
 }
 
-// Made on the blank state, a refused call leaves the store's as it was.
-fn kept(state: State, call: Call, told: Told) -> Told {
-    let mut after = told;
+// The state after a call; made on the blank state, a refused call leaves the store's as it was.
+pub fn kept(before: State, call: Call, told: Told) -> State {
     if call.blank && told.answer.refusal != 0 {
-        after.state = state;
+        return before;
     }
-    after
+    told.state
 }
 
 // A call on the store, with so much of each piece lent as is asked for by the plain store's settings.
@@ -279,6 +278,8 @@ pub fn call(
     table: &mut [u16],
     owners: &mut [u32],
     history: &mut [u16],
+    script: &[u8],
+    source: Source,
     asked: Asked,
     plain: Plain,
 ) -> Played {
@@ -306,10 +307,9 @@ pub fn call(
         &mut table[0..t],
         &mut owners[0..o],
         &mut history[0..h],
+        script,
+        source,
         call,
     );
-    Played {
-        told: kept(state, call, told),
-        lent,
-    }
+    Played { told, lent }
 }

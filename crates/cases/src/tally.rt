@@ -1,78 +1,11 @@
-// What was covered: the counts that are printed, and the differences.
+// What is printed: answers, differences, and what was covered.
+use choices::counts;
+use choices::counts::Tally;
 use copies::Answer;
 use copies::Call;
 use io::print_decimal;
 use io::write_all;
 use libc::STDOUT_FILENO;
-use std::num::wrapping_add_usize;
-use store::Registers;
-
-// Answers by refusal, 0 for accepted; origins in the places 1 to 3; calls by kind from 14 on; and what is named below.
-pub struct Tally {
-    pub n: [usize; 32],
-}
-
-const RESETS: usize = 23;
-
-const SWEEPS: usize = 24;
-
-const TURNS: usize = 25;
-
-const YES: usize = 26;
-
-const DIFFERENCES: usize = 27;
-
-// Not printed.
-const OTHER: usize = 31;
-
-pub fn empty() -> Tally {
-    let n = [0usize; 32];
-    Tally { n }
-}
-
-fn count(tally: Tally, at: usize) -> Tally {
-    let mut after = tally;
-    let n = after.n[at % 32];
-    after.n[at % 32] = wrapping_add_usize(n, 1);
-    after
-}
-
-fn only(yes: bool, place: usize) -> usize {
-    if yes {
-        return place;
-    }
-    OTHER
-}
-
-fn origin(n: usize) -> usize {
-    match n {
-        copies::CACHE => 1,
-        copies::ARCHIVE => 3,
-        _ => 2,
-    }
-}
-
-// Where an accepted call is counted, by the store's own registers before and after it.
-pub fn deed(kind: u32, answer: Answer, before: Registers, after: Registers) -> usize {
-    match kind {
-        copies::RESET => RESETS,
-        copies::READ => origin(answer.second),
-        copies::MARK => only(after.cmf < before.cmf, TURNS),
-        copies::ROLLBACK => only(after.tag == 0, SWEEPS),
-        copies::CHECK => only(answer.first == 1, YES),
-        _ => OTHER,
-    }
-}
-
-// A call is counted.
-fn counted(tally: Tally, kind: u32, answer: Answer, deed: usize) -> Tally {
-    let by_refusal = count(tally, answer.refusal);
-    let by_kind = count(by_refusal, (kind % 16) as usize + 14);
-    if answer.refusal != 0 {
-        return by_kind;
-    }
-    count(by_kind, deed)
-}
 
 fn say(words: &[u8], n: usize) {
     write_all(STDOUT_FILENO, words);
@@ -87,11 +20,18 @@ pub fn print_answer(words: &[u8], answer: Answer) {
     say(b" ", answer.third);
 }
 
-fn is_same(a: Answer, b: Answer) -> bool {
-    if a.refusal != b.refusal || a.first != b.first {
-        return false;
+fn wide(n: u32) -> usize {
+    n as usize
+}
+
+// The answers that were lent to a block.
+pub fn print_answers(answers: [u32; 256], count: usize) {
+    write_all(STDOUT_FILENO, b", answers");
+    for i in 0..count {
+        if i < 256 {
+            say(b" ", wide(answers[i]));
+        }
     }
-    a.second == b.second && a.third == b.third
 }
 
 // The word of a call, filled up to 8 bytes.
@@ -107,7 +47,7 @@ fn print_word(words: &[u8], kind: u32) {
 fn print_difference(call: Call, store: Answer, plain: Answer) {
     write_all(STDOUT_FILENO, b"\n  difference: ");
     print_word(
-        b"reset   write   read    line    mark    back    advance counts  check   ",
+        b"reset   write   read    line    mark    back    advance counts  check   block   ",
         call.kind,
     );
     say(b"", call.a as usize);
@@ -117,59 +57,46 @@ fn print_difference(call: Call, store: Answer, plain: Answer) {
     print_answer(b", plain ", plain);
 }
 
-// A call is counted, and its two answers are compared. A difference is counted, and printed if it is one of the first.
+// A call is counted, and its two answers are compared. A difference is printed if it is one of the first.
 pub fn judged(tally: Tally, call: Call, deed: usize, store: Answer, plain: Answer) -> Tally {
-    if call.kind > copies::CHECK {
-        return tally;
-    }
-    let after = counted(tally, call.kind, plain, deed);
-    if is_same(store, plain) {
-        return after;
-    }
-    if after.n[27] < 6 {
+    if !copies::is_same(store, plain) && tally.n[29] < 6 {
         print_difference(call, store, plain);
     }
-    count(after, DIFFERENCES)
+    counts::judged(tally, call.kind, deed, store, plain)
 }
 
 // The end of a run's line.
 pub fn print_differences(tally: Tally) {
-    say(b": differences ", tally.n[27]);
+    say(b": differences ", tally.n[29]);
     write_all(STDOUT_FILENO, b"\n");
 }
 
-// The counts from a place on, with their names of 13 bytes.
-fn print_list(names: &[u8], tally: Tally, from: usize) {
-    for i in 0..8usize {
-        let end = i * 13 + 13;
+// The counts, each behind its name of 13 bytes.
+fn print_list(names: &[u8], counts: &[usize]) {
+    for i in 0..counts.len() {
+        let end = i % 256 * 13 + 13;
         if end <= names.len() {
-            write_all(STDOUT_FILENO, &names[i * 13..end]);
-            say(b"", tally.n[(from % 32 + i) % 32]);
+            write_all(STDOUT_FILENO, &names[end - 13..end]);
+            say(b"", counts[i]);
             write_all(STDOUT_FILENO, b"\n");
         }
     }
 }
 
-// All that was covered.
-pub fn print(tally: Tally) {
+// All that was covered; of blocks, what the plain store saw.
+pub fn print(tally: Tally, blocks: [usize; 16]) {
+    let n = tally.n;
     print_list(
-        b"accepted     from cache   from frame   from archive refused 4    refused 5    refused 6    refused 7    ",
-        tally,
-        0,
+        b"accepted     from cache   from frame   from archive refused 4    refused 5    refused 6    refused 7    \
+        refused 8    refused 9    refused 10   refused 11   refused 12   refused 13   refused 14   reset        \
+        write        read         line         mark         rollback     advance      counts       check        \
+        block        resets done  sweeps       turns        CHECK yes    differences  most live    room again   \
+        conflicts    ",
+        &n,
     );
     print_list(
-        b"refused 8    refused 9    refused 10   refused 11   refused 12   refused 13   reset        write        ",
-        tally,
-        8,
-    );
-    print_list(
-        b"read         line         mark         rollback     advance      counts       check        resets done  ",
-        tally,
-        16,
-    );
-    print_list(
-        b"sweeps       turns        CHECK yes    differences  most live    room again   conflicts    ",
-        tally,
-        24,
+        b"items        items done   items got 7  items got 8  items got 9  items got 10 items got 13 behind a 13  \
+        empty blocks equal lists  longer lists 5 before 14  6 before 14  ",
+        &blocks,
     );
 }

@@ -5,8 +5,8 @@ use crate::asked::call;
 use std::num::wrapping_add_usize;
 use std::num::wrapping_sub_usize;
 
-// A run: settings, how many calls are left, every how many COUNTS and CHECK are asked, the seed; and of the rows the place and how the memory
-// is lent to them.
+// A run: settings, how many calls are left, every how many COUNTS and CHECK are asked, the seed; and of the rows the place, that of the list
+// of items, and how the memory is lent to them.
 pub struct Run {
     pub lines: usize,
     pub frames: usize,
@@ -15,6 +15,7 @@ pub struct Run {
     pub every: usize,
     pub seed: usize,
     pub place: usize,
+    pub list: usize,
     pub lent: u32,
 }
 
@@ -62,7 +63,8 @@ fn mix_in(phase: usize) -> Mix {
 // A kind of call that opens or closes no frame.
 fn steady(n: usize) -> u32 {
     match n {
-        0..=219 => copies::WRITE,
+        0..=207 => copies::WRITE,
+        208..=219 => copies::BLOCK,
         220..=439 => copies::READ,
         440..=491 => copies::LINE,
         492..=499 => copies::COUNTS,
@@ -102,13 +104,13 @@ fn line(seed: usize, left: usize, lines: usize) -> usize {
 }
 
 // A line number, now and then at the end of the memory or past it.
-fn line_number(seed: usize, line: usize, lines: usize) -> usize {
+fn line_number(seed: usize, left: usize, lines: usize) -> usize {
     match (seed >> 32) % 32 {
         0 => lines,
         1 => wrapping_sub_usize(lines, 1),
         2 => wrapping_add_usize(lines, 1),
         3 => 4294967295,
-        _ => line,
+        _ => line(seed, left, lines),
     }
 }
 
@@ -155,6 +157,64 @@ fn value(seed: usize, width: usize) -> usize {
         4 => 0,
         _ => rest(next(seed) >> 30, most),
     }
+}
+
+// A READ or a WRITE.
+pub fn access(kind: u32, seed: usize, left: usize, lines: usize, lent: u32) -> Asked {
+    let line = line(seed, left, lines);
+    let width = width((seed >> 46) % 64);
+    let address = address(seed, line, lines, width);
+    call(kind, width, address, value(seed, width), lent)
+}
+
+// How many items a block has: mostly some ten, now and then none, one, up to 200, and 200.
+fn items(seed: usize) -> usize {
+    let any = seed >> 20;
+    match (seed >> 16) % 16 {
+        0 => 0,
+        1 => 1,
+        2 => 200,
+        3 => any % 200,
+        _ => any % 24 + 2,
+    }
+}
+
+// How many answers it is lent: one too few, as many as items, or more.
+fn answers(n: usize, items: usize) -> usize {
+    match n {
+        0 | 1 => {
+            if items == 0 {
+                return 0;
+            }
+            items - 1
+        }
+        2..=6 => items,
+        _ => wrapping_add_usize(items, n - 6),
+    }
+}
+
+// How memory is lent to a block: more often short or on the blank state than to other calls, and seldom all, since what is lent is copied and
+// compared.
+fn lent_to_block(n: usize) -> u32 {
+    match n {
+        0 => 1,
+        1 => 2,
+        2 => 3,
+        3 => 4,
+        4 => 5,
+        5 => 6,
+        6 | 7 => asked::BLANK,
+        8..=11 => asked::WHOLE,
+        _ => 0,
+    }
+}
+
+// A block, with none, one or two numbers behind the last item.
+fn block(seed: usize) -> Asked {
+    let items = items(seed);
+    let answers = answers((seed >> 28) % 16, items);
+    let lent = lent_to_block((seed >> 50) % 64);
+    call(copies::BLOCK, items, answers, (seed >> 32) % 3, lent)
 }
 
 // How many frames: mostly one or two, now and then none, one more than the marked states, the largest number, all marked states (not while
@@ -244,18 +304,11 @@ pub fn chosen(run: Run, lines: usize, frames: usize, live: usize) -> Asked {
     }
     let phase = run.left / (run.frames % 1024 * 2 + 200) % 5;
     let kind = kind(seed, phase, is_full(lines, frames, live));
-    let line = line(seed, run.left, lines);
-    let width = width((seed >> 46) % 64);
     match kind {
         copies::RESET => reset(seed, run, lent),
-        copies::WRITE | copies::READ => call(
-            kind,
-            width,
-            address(seed, line, lines, width),
-            value(seed, width),
-            lent,
-        ),
-        copies::LINE => call(kind, line_number(seed, line, lines), 0, 0, lent),
+        copies::WRITE | copies::READ => access(kind, seed, run.left, lines, lent),
+        copies::LINE => call(kind, line_number(seed, run.left, lines), 0, 0, lent),
+        copies::BLOCK => block(seed),
         _ => call(kind, count(seed, phase, live), 0, 0, lent),
     }
 }

@@ -2,16 +2,27 @@
 use crate::asked;
 use crate::asked::Asked;
 use crate::asked::narrow;
+use crate::choice::Run;
 use std::num::wrapping_add_usize;
 
-// No calls: a title, the start of a run, which piece is short from here on, the end.
-pub const TITLE: u32 = 9;
+// No calls: a title, the start of a run, which piece is short from here on, the start of a list of items, an item, the end.
+pub const TITLE: u32 = 10;
 
-pub const BEGIN: u32 = 10;
+pub const BEGIN: u32 = 11;
 
-pub const SHORT: u32 = 11;
+pub const SHORT: u32 = 12;
 
-pub const END: u32 = 12;
+pub const ITEMS: u32 = 13;
+
+pub const ITEM: u32 = 14;
+
+pub const END: u32 = 15;
+
+// A call, and where the rows and the run are behind it.
+pub struct Turn {
+    pub asked: Asked,
+    pub run: Run,
+}
 
 // A row as far as it is read; `next` is behind it.
 pub struct Row {
@@ -67,7 +78,7 @@ fn kind_at(script: &[u8], at: usize) -> u32 {
     word_at(
         script,
         at,
-        b"reset   write   read    line    mark    back    advance counts  check   title   begin   short   ",
+        b"reset   write   read    line    mark    back    advance counts  check   block   title   begin   short   items   item    ",
     )
 }
 
@@ -130,4 +141,35 @@ pub fn row_at(script: &[u8], at: usize) -> Row {
 pub fn call_of(row: Row, lent: u32) -> Asked {
     let fields = row.fields;
     asked::call(row.kind, fields[1], fields[2], fields[3], lent)
+}
+
+// The start of a run, with its RESET.
+fn begun(row: Row, run: Run) -> Turn {
+    let fields = row.fields;
+    let mut after = run;
+    after.lines = fields[1];
+    after.frames = fields[2];
+    after.pages = fields[3];
+    after.left = fields[4];
+    after.every = fields[5];
+    after.seed = fields[6];
+    let asked = asked::call(copies::RESET, fields[1], fields[2], fields[3], run.lent);
+    Turn { asked, run: after }
+}
+
+// A row that is no start of a run is a call or an item, or says which piece is short or where the items are from here on.
+pub fn turn_of(script: &[u8], row: Row, run: Run) -> Turn {
+    let mut after = run;
+    after.place = row.next;
+    if row.kind == SHORT {
+        after.lent = lent_at(script, run.place);
+    }
+    if row.kind == ITEMS {
+        after.list = row.next;
+    }
+    if row.kind == BEGIN {
+        return begun(row, after);
+    }
+    let asked = call_of(row, run.lent);
+    Turn { asked, run: after }
 }

@@ -1,12 +1,18 @@
 // A second plain store with whole copies: after every mark the whole memory is copied. It is fed the calls and the lent lengths alone.
+mod items;
 mod lengths;
 mod memory;
+pub mod pieces;
 mod recent;
 mod refusals;
 
+pub use items::Answered;
+pub use items::beside;
+pub use items::item_at;
 pub use lengths::Lengths;
 pub use lengths::least;
 use memory::copy;
+pub use memory::room;
 use memory::size;
 pub use recent::Cache;
 use std::num::wrapping_add_usize;
@@ -30,22 +36,26 @@ pub const COUNTS: u32 = 7;
 
 pub const CHECK: u32 = 8;
 
+pub const BLOCK: u32 = 9;
+
 // Origins that are no count of marks back.
 pub const CACHE: usize = 1000;
 
 pub const ARCHIVE: usize = 1001;
 
-// A call, on the store's state or on the blank one. Kinds above CHECK are no calls.
+// A call, on the store's state or on the blank one. Kinds above BLOCK are no calls.
 pub struct Call {
     pub kind: u32,
-    // RESET: L, F, P; WRITE: width, address, value; READ: width, address; LINE: number; ROLLBACK, ADVANCE: k
+    // RESET: L, F, P; WRITE: width, address, value; READ: width, address; LINE: number; ROLLBACK, ADVANCE: k; BLOCK: how many items and answers,
+    // and how many numbers lie behind the last item
     pub a: u32,
     pub b: u32,
     pub c: u32,
     pub blank: bool,
 }
 
-// What a call answers. READ: value and origin; LINE: bytes as two numbers and how many they are; COUNTS: live frames and pages; CHECK: 1.
+// What a call answers. READ: value and origin; LINE: bytes as two numbers and how many they are; COUNTS: live frames and pages; CHECK: 1;
+// BLOCK: how many items were accepted.
 pub struct Answer {
     pub refusal: usize,
     pub first: usize,
@@ -53,8 +63,15 @@ pub struct Answer {
     pub third: usize,
 }
 
+pub fn is_same(a: Answer, b: Answer) -> bool {
+    if a.refusal != b.refusal || a.first != b.first {
+        return false;
+    }
+    a.second == b.second && a.third == b.third
+}
+
 // The settings, how many frames are live, and the cache; and what was seen: whether 13 was given since the last page was given out, how
-// often a page was given out after that, and the most live frames.
+// often a page was given out after that, the most live frames, and of blocks what `items` names.
 pub struct Plain {
     pub lines: usize,
     pub frames: usize,
@@ -63,6 +80,7 @@ pub struct Plain {
     pub full: bool,
     pub rooms: usize,
     pub highest: usize,
+    pub blocks: [usize; 16],
     pub cache: Cache,
 }
 
@@ -74,6 +92,7 @@ pub struct Reply {
 
 // No store: L is 0.
 pub fn blank() -> Plain {
+    let blocks = [0usize; 16];
     Plain {
         lines: 0,
         frames: 0,
@@ -82,6 +101,7 @@ pub fn blank() -> Plain {
         full: false,
         rooms: 0,
         highest: 0,
+        blocks,
         cache: recent::empty(0),
     }
 }
@@ -91,6 +111,7 @@ fn reset(memory: &mut [u32], plain: Plain, call: Call) -> Plain {
     let lines = call.a as usize;
     memory::clear(memory, wrapping_add_usize(size(lines), size(lines)));
     let cache = plain.cache;
+    let blocks = plain.blocks;
     Plain {
         lines,
         frames: call.b as usize,
@@ -99,6 +120,7 @@ fn reset(memory: &mut [u32], plain: Plain, call: Call) -> Plain {
         full: false,
         rooms: plain.rooms,
         highest: plain.highest,
+        blocks,
         cache: recent::empty(cache.conflicts),
     }
 }
@@ -255,7 +277,7 @@ fn refused(plain: Plain, kind: u32, refusal: usize) -> Reply {
 }
 
 // A call on the plain store, where pieces of these lengths are lent.
-pub fn step(memory: &mut [u32], plain: Plain, call: Call, lent: Lengths) -> Reply {
+fn step(memory: &mut [u32], plain: Plain, call: Call, lent: Lengths) -> Reply {
     let refusal = refusals::refusal(memory, plain, call, lent);
     if refusal != 0 {
         return refused(plain, call.kind, refusal);

@@ -3,6 +3,15 @@
 use crate::ARCHIVE;
 use std::num::wrapping_add_usize;
 use std::num::wrapping_sub_usize;
+ghost use mathlib.Core.Path.{_≡_};
+ghost use lib.ListN.{length};
+
+// Room for the copies: 256 live frames up to L = 512, 31 at L = 4,096.
+pub fn room() -> [u32; 542784]
+    ensures { λ r. ⌜ 542784 ≡ length r ⌝ }
+{
+    [0; 542784]
+}
 
 // A product, or 0 where a factor is out of use here.
 pub fn times(a: usize, b: usize) -> usize {

@@ -88,6 +88,23 @@ fn of_write(memory: &[u32], plain: Plain, width: usize, address: usize, n: usize
     13
 }
 
+// 5, 6
+fn of_store(plain: Plain, blank: bool, lent: Lengths) -> usize {
+    if blank || plain.lines == 0 {
+        return 5;
+    }
+    of_lengths(plain.lines, plain.frames, plain.pages, lent)
+}
+
+// 5, 6, 14: the answers are fewer than the items.
+pub fn of_block(plain: Plain, blank: bool, lent: Lengths, items: usize, answers: usize) -> usize {
+    let first = of_store(plain, blank, lent);
+    if first != 0 {
+        return first;
+    }
+    only(answers < items, 14)
+}
+
 // 11: k is 0 or more than the live frames but one.
 fn of_frames(live: usize, k: usize) -> usize {
     if k == 0 || k >= live {
@@ -119,12 +136,9 @@ pub fn refusal(memory: &[u32], plain: Plain, call: Call, lent: Lengths) -> usize
     if call.kind > crate::CHECK {
         return 0;
     }
-    if call.blank || plain.lines == 0 {
-        return 5;
-    }
-    let short = of_lengths(plain.lines, plain.frames, plain.pages, lent);
-    if short != 0 {
-        return short;
+    let first = of_store(plain, call.blank, lent);
+    if first != 0 {
+        return first;
     }
     of_call(memory, plain, call)
 }

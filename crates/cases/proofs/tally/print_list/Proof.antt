@@ -5,10 +5,10 @@ use Rattle.cases.proofs.tally.print_list.Statement.{statement}
 use Rattle.cases.proofs.tally.print_list.Tie as tie
 
 abbrev Inv-loop : tie.InvT-loop
-Inv-loop names from tally i₀ t7 t8 i = i ≤ 8
+Inv-loop names counts i₀ t5 t6 i-end i = i ≤ i-end
 
 abbrev μ-loop : tie.MeasureT-loop
-μ-loop names from tally i₀ t7 t8 i = 8 - i
+μ-loop names counts i₀ t5 t6 i-end i = i-end - i
 
 loop-holds : tie.Need-loop-holds Inv-loop μ-loop
 loop-holds c = search needs
@@ -19,11 +19,11 @@ mul-end c = search needs
 add-end : tie.Need-add-end Inv-loop μ-loop
 add-end c = search needs
 
-mul-write-all : tie.Need-mul-write-all Inv-loop μ-loop
-mul-write-all c = search needs
-
 sub-write-all : tie.Need-sub-write-all Inv-loop μ-loop
 sub-write-all c = search needs
+
+sub-write-all-2 : tie.Need-sub-write-all-2 Inv-loop μ-loop
+sub-write-all-2 c = search needs
 
 part-write-all-start : tie.Need-part-write-all-start Inv-loop μ-loop
 part-write-all-start c = search needs
@@ -37,14 +37,11 @@ write-all-requires c κs = tt
 slice-aggregate-say : tie.Need-slice-aggregate-say Inv-loop μ-loop
 slice-aggregate-say c = search needs
 
-add-say : tie.Need-add-say Inv-loop μ-loop
-add-say c = search needs
-
 mul-say : tie.Need-mul-say Inv-loop μ-loop
 mul-say c = search needs
 
-element-copy-out-say : tie.Need-element-copy-out-say Inv-loop μ-loop
-element-copy-out-say c = search needs
+shared-slice-read-say : tie.Need-shared-slice-read-say Inv-loop μ-loop
+shared-slice-read-say c = search needs
 
 say-requires : tie.Need-say-requires Inv-loop μ-loop
 say-requires c κs = tt
@@ -76,15 +73,14 @@ print-list-spec =
     loop-holds
     mul-end
     add-end
-    mul-write-all
     sub-write-all
+    sub-write-all-2
     part-write-all-start
     part-write-all-end
     write-all-requires
     slice-aggregate-say
-    add-say
     mul-say
-    element-copy-out-say
+    shared-slice-read-say
     say-requires
     slice-aggregate-write-all
     write-all-requires-2

@@ -1,0 +1,142 @@
+-- `cases::block::call` is safe and ends: no list changes its length. Assumes nothing.
+use borrow.Author.Needs.{needs}
+use mathlib.Core.Path.{sym}
+use Rattle.cases.proofs.block.call.Statement.{statement}
+use Rattle.cases.proofs.block.call.Tie as tie
+
+list-requires : tie.Need-list-requires
+list-requires c κs = tt
+
+numbers-requires : tie.Need-numbers-requires
+numbers-requires c κs = tt
+
+answers-lent-requires : tie.Need-answers-lent-requires
+answers-lent-requires c κs = tt
+
+unanswered-requires : tie.Need-unanswered-requires
+unanswered-requires c κs = tt
+
+pool-copy-requires : tie.Need-pool-copy-requires
+pool-copy-requires c κs = tt
+
+groups-copy-requires : tie.Need-groups-copy-requires
+groups-copy-requires c κs = tt
+
+table-copy-requires : tie.Need-table-copy-requires
+table-copy-requires c κs = tt
+
+owners-copy-requires : tie.Need-owners-copy-requires
+owners-copy-requires c κs = tt
+
+sub-items : tie.Need-sub-items
+sub-items c = search needs
+
+part-items-start : tie.Need-part-items-start
+part-items-start c = search needs
+
+part-items-end : tie.Need-part-items-end
+part-items-end c = search needs
+
+sub-write-block : tie.Need-sub-write-block
+sub-write-block c = search needs
+
+part-answers-start : tie.Need-part-answers-start
+part-answers-start c = search needs
+
+part-answers-end : tie.Need-part-answers-end
+part-answers-end c = search needs
+
+write-block-requires : tie.Need-write-block-requires
+write-block-requires c κs = tt
+
+-- The copies, whose lengths their functions promise.
+abbrev copied : tie.After-other-pool → tie.After-owners-copy
+copied c = let m = c .before .before .before .before .before .before .before .before .before in m .before .before .before .before .before .before .before .before .before
+
+slice-aggregate-singly : tie.Need-slice-aggregate-singly
+slice-aggregate-singly c = copied c .before .before .before .before .before .before .pool-copy .ensures
+
+slice-aggregate-singly-2 : tie.Need-slice-aggregate-singly-2
+slice-aggregate-singly-2 c = copied (c .before) .before .before .before .before .groups-copy .ensures
+
+slice-aggregate-singly-3 : tie.Need-slice-aggregate-singly-3
+slice-aggregate-singly-3 c = copied (c .before .before) .before .before .table-copy .ensures
+
+slice-aggregate-singly-4 : tie.Need-slice-aggregate-singly-4
+slice-aggregate-singly-4 c = copied (c .before .before .before) .owners-copy .ensures
+
+singly-requires : tie.Need-singly-requires
+singly-requires c κs = tt
+
+slice-aggregate-pieces-apart : tie.Need-slice-aggregate-pieces-apart
+slice-aggregate-pieces-apart c = sym (c .before .before .before .before .before .before .before .before .other-pool2 .given)
+
+slice-aggregate-pieces-apart-2 : tie.Need-slice-aggregate-pieces-apart-2
+slice-aggregate-pieces-apart-2 c = sym (c .before .before .before .before .before .before .before .before .other-groups2 .given)
+
+slice-aggregate-pieces-apart-3 : tie.Need-slice-aggregate-pieces-apart-3
+slice-aggregate-pieces-apart-3 c = sym (c .before .before .before .before .before .before .before .before .other-table2 .given)
+
+slice-aggregate-pieces-apart-4 : tie.Need-slice-aggregate-pieces-apart-4
+slice-aggregate-pieces-apart-4 c = sym (c .before .before .before .before .before .before .before .before .other-owners2 .given)
+
+pieces-apart-requires : tie.Need-pieces-apart-requires
+pieces-apart-requires c κs = tt
+
+told-of-requires : tie.Need-told-of-requires
+told-of-requires c κs = tt
+
+-- What the block left.
+abbrev behind-block : tie.After-told-of → tie.After-owners
+behind-block c = let m = c .before .before .before .before .before .before .before .before .before .before in m .before .before .before .before .before .before .before .before .before .before .before
+
+same-length : tie.Need-same-length
+same-length c = behind-block c .before .before .before .before .before .before .pool .given
+
+same-length-2 : tie.Need-same-length-2
+same-length-2 c = behind-block c .before .before .before .before .groups .given
+
+same-length-3 : tie.Need-same-length-3
+same-length-3 c = behind-block c .before .before .table .given
+
+same-length-4 : tie.Need-same-length-4
+same-length-4 c = behind-block c .owners .given
+
+returns : tie.Need-returns
+returns c = tt
+
+pub call-spec : {M : Type 1} → statement M
+call-spec =
+    tie.close
+    (tie.spec
+    list-requires
+    numbers-requires
+    answers-lent-requires
+    unanswered-requires
+    pool-copy-requires
+    groups-copy-requires
+    table-copy-requires
+    owners-copy-requires
+    sub-items
+    part-items-start
+    part-items-end
+    sub-write-block
+    part-answers-start
+    part-answers-end
+    write-block-requires
+    slice-aggregate-singly
+    slice-aggregate-singly-2
+    slice-aggregate-singly-3
+    slice-aggregate-singly-4
+    singly-requires
+    slice-aggregate-pieces-apart
+    slice-aggregate-pieces-apart-2
+    slice-aggregate-pieces-apart-3
+    slice-aggregate-pieces-apart-4
+    pieces-apart-requires
+    told-of-requires
+    same-length
+    same-length-2
+    same-length-3
+    same-length-4
+    returns)

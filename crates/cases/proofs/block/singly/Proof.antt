@@ -1,0 +1,72 @@
+-- `cases::singly` is safe and ends. Assumes nothing.
+use borrow.Author.Needs.{needs}
+use mathlib.Core.Path.{_≡_}
+use Prim.Native.Nat.{_-_, _<_}
+use lib.ListN.{length}
+use Rattle.cases.proofs.block.singly.Statement.{statement}
+use Rattle.cases.proofs.block.singly.Tie as tie
+
+abbrev Inv-loop : tie.InvT-loop
+Inv-loop archive pool₀ groups₀ table₀ owners₀ history items refusal answers count after₀ apart₀ i₀ pool groups table owners after apart i = (length pool ≡ length pool₀) × (length groups ≡ length groups₀) × (length table ≡ length table₀) × (length owners ≡ length owners₀) × (count < 18446744073709551616)
+
+abbrev μ-loop : tie.MeasureT-loop
+μ-loop archive pool₀ groups₀ table₀ owners₀ history items refusal answers count after₀ apart₀ i₀ pool groups table owners after apart i = count - i
+
+sent-requires : tie.Need-sent-requires Inv-loop μ-loop
+sent-requires c κs = tt
+
+loop-holds : tie.Need-loop-holds Inv-loop μ-loop
+loop-holds c = search needs
+
+item-at-requires : tie.Need-item-at-requires Inv-loop μ-loop
+item-at-requires c κs = tt
+
+write-requires : tie.Need-write-requires Inv-loop μ-loop
+write-requires c κs = tt
+
+place-apart-requires : tie.Need-place-apart-requires Inv-loop μ-loop
+place-apart-requires c κs = tt
+
+add-i : tie.Need-add-i Inv-loop μ-loop
+add-i c = search needs
+
+loop-less : tie.Need-loop-less Inv-loop μ-loop
+loop-less c = search needs
+
+loop-again : tie.Need-loop-again Inv-loop μ-loop
+loop-again c = search needs
+
+same-length : tie.Need-same-length Inv-loop μ-loop
+same-length c = search needs
+
+same-length-2 : tie.Need-same-length-2 Inv-loop μ-loop
+same-length-2 c = search needs
+
+same-length-3 : tie.Need-same-length-3 Inv-loop μ-loop
+same-length-3 c = search needs
+
+same-length-4 : tie.Need-same-length-4 Inv-loop μ-loop
+same-length-4 c = search needs
+
+returns : tie.Need-returns Inv-loop μ-loop
+returns c = search needs
+
+pub singly-spec : {M : Type 1} → statement M
+singly-spec =
+    tie.close
+    (tie.spec
+    Inv-loop
+    μ-loop
+    sent-requires
+    loop-holds
+    item-at-requires
+    write-requires
+    place-apart-requires
+    add-i
+    loop-less
+    loop-again
+    same-length
+    same-length-2
+    same-length-3
+    same-length-4
+    returns)

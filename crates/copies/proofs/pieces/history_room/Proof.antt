@@ -1,0 +1,12 @@
+-- `copies::history_room` gives a list of its length. Assumes nothing.
+use mathlib.Core.Path.{sym}
+use Prim.Native.Nat.{ℕ}
+use lib.ListN.{length-replicate}
+use Rattle.copies.proofs.pieces.history_room.Statement.{statement}
+use Rattle.copies.proofs.pieces.history_room.Tie as tie
+
+returns : tie.Need-returns
+returns c = sym (length-replicate {A = ℕ} 256 0)
+
+pub history-room-spec : {M : Type 1} → statement M
+history-room-spec = tie.close (tie.spec returns)

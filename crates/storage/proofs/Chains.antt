@@ -21,7 +21,7 @@ use Rattle.versions.specs.declared.Spot.{Spot}
 use Rattle.versions.specs.Newest.{AsksSpot, spotOf, AsksContent}
 use Rattle.versions.proofs.Finding.{newest-below, content-asks}
 use Rattle.storage.specs.Admit.{admitted, LineRoom, PlaceRoom, FramesRoom, Admits}
-use Rattle.storage.proofs.Admitting.{admitted-room}
+use Rattle.storage.proofs.Admitting.{admitted-room, room-passed}
 
 -- Tests in a row either pass, and the rest decides, or give one refusal whatever comes after them.
 abbrev Links : (ℕ → ℕ) → Type 0
@@ -82,8 +82,8 @@ module _ (w : ℕ) where
         four false e = absurd (false≢true (width-none a b (eqb-false w 4 e) ∙ h))
 
 -- The lengths measured are the lent pieces'.
-pub measured : (s : Registers) (rest : ℕ) {a : ℕ} {p n : Pieces} → p ≡ n → a ≡ admitted s p rest → a ≡ admitted s n rest
-measured s rest e told = told ∙ ap (λ (m : Pieces). admitted s m rest) e
+pub measured-none : (s : Registers) {a : ℕ} {p n : Pieces} → p ≡ n → a ≡ admitted s p 0 → a ≡ 0 → admitted s n 0 ≡ 0
+measured-none s e told z = ap (λ (m : Pieces). admitted s m 0) (sym e) ∙ (sym told ∙ z)
 
 pub asked-measured : (s : Settings) {a : ℕ} {p n : Pieces} → p ≡ n → a ≡ askedRefusal p s → a ≡ askedRefusal n s
 asked-measured s e told = told ∙ ap (λ (m : Pieces). askedRefusal m s) e
@@ -247,11 +247,10 @@ pub place-told : (s : Registers) (p : Pieces) (r w a : ℕ) → r ≡ admitted s
     → Admits r (admitted s p (placeRefusal (s .settings) w a 0)) (PlaceRoom s p w a)
 place-told s p r w a e = (e, place-room s p r w a e)
 
-pub write-room : (s : Registers) (p : Pieces) (r w a v : ℕ) → r ≡ admitted s p (writeRefusal (s .settings) w a v 0) → r ≡ 0
-    → PlaceRoom s p w a × Placed (s .settings) w a
-write-room s p r w a v told z =
-    let d = write-passed (s .settings) w a v 0 (admitted-rest s p r _ told z) .0 in
-    (record { room = admitted-room s p r _ told z; line-below = line-below d; bytes = place-bytes (s .settings) w a d }, d)
+pub write-room : (s : Registers) (p : Pieces) (r w a v : ℕ) → admitted s p 0 ≡ 0 → r ≡ writeRefusal (s .settings) w a v 0 → r ≡ 0 → PlaceRoom s p w a × Placed (s .settings) w a
+write-room s p r w a v let-in own z =
+    let d = write-passed (s .settings) w a v 0 (sym own ∙ z) .0 in
+    (record { room = room-passed s p let-in; line-below = line-below d; bytes = place-bytes (s .settings) w a d }, d)
 
 -- and LINE.
 pub line-room : (s : Registers) (p : Pieces) (r l : ℕ) → r ≡ admitted s p (lineRefusal (s .settings) l) → r ≡ 0 → LineRoom s p l

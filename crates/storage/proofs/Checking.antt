@@ -9,7 +9,7 @@ use native.Mathlib.Decide.{decLt, ℕ-discrete}
 use native.Mathlib.Omega.{arith}
 use borrow.Author.Tests.{lt-ltb}
 use lib.ListN.{length}
-use Rattle.rules.specs.Settings.{Settings, elements, enough}
+use Rattle.rules.specs.Settings.{Settings, Pieces, elements, enough}
 use Rattle.rules.specs.Sizing.{settingsOf}
 use Rattle.rules.specs.Line.{Line, IsLine, zeros}
 use Rattle.rules.specs.Call.{refused}
@@ -37,9 +37,9 @@ use Rattle.wellformed.specs.Decision.{Decides}
 use Rattle.wellformed.specs.Parts.{RecentIn, Bytes, AsksBits, AsksRecent}
 use Rattle.wellformed.proofs.Deciding.{passes}
 use Rattle.storage.specs.Storage.{Storage, settingsIn, registersIn, liveIn, lengthsIn, writtenIn, indexBack, versionAt, frameIn, archiveIn, latestIn, newestFrame, WellStore, store}
-use Rattle.storage.specs.Admit.{Room}
+use Rattle.storage.specs.Admit.{admitted, Room}
 use Rattle.storage.proofs.Admitting.{admitted-room, room-lent, room-newest}
-use Rattle.storage.proofs.Looking.{admittedIn, turned-down, let-through}
+use Rattle.storage.proofs.Looking.{admittedIn, told-in, turned-down, let-through}
 use Rattle.storage.proofs.Figures.{frame-live, frame-past, frame-at, archive-past}
 use Rattle.storage.proofs.Reading.{Findable, well-findable, page-known, newest-told}
 
@@ -188,7 +188,10 @@ module _ (x : Storage) (z : admittedIn x 0 ≡ 0) (live : ℕ) (counted : live �
           }
 
 -- CHECK
-module _ (x : Storage) (a : ℕ) (told : a ≡ admittedIn x 0) where
+module _ (x : Storage) (a : ℕ) (p : Pieces) (are : p ≡ lengthsIn (x .memory)) (given : a ≡ admitted (registersIn (x .state)) p 0) where
+  told : a ≡ admittedIn x 0
+  told = told-in x 0 a p are given
+
   pub check-refused : a ≢ 0 → Promise store CHECK x (verdict a false) x
   unfolding refusal refused
   check-refused z = turned-down x CHECK a told z

@@ -50,13 +50,13 @@ use Rattle.versions.proofs.Cleared.{PagesCleared, pages-cleared, pages-collecte
 use Rattle.storage.specs.declared.Registers.{Registers}
 use Rattle.storage.specs.Storage.{Storage, stateOf, storageOf, memoryOf, startIn, settingsIn, registersIn, lengthsIn, pastIn, Recent, Coherent, liveIn, writtenIn, indexBack, frameIn, archiveIn, versionAt, latestIn, frameNumber, newestFrame, WellStore, store}
 use Rattle.storage.specs.Steps.{FirstPages, advancedRegisters, advancedState}
-use Rattle.storage.specs.Admit.{Room}
+use Rattle.storage.specs.Admit.{admitted, Room}
 use Rattle.storage.specs.Contracts.{Advances}
 use Rattle.storage.proofs.Rings.{start-same, start-below, used-same, ring-first}
 use Rattle.storage.proofs.Limits.{Limits, limits, lent-long}
 use Rattle.storage.proofs.Admitting.{room-of}
 use Rattle.storage.proofs.Chains.{frames-room}
-use Rattle.storage.proofs.Looking.{admittedIn, turned-down, let-through}
+use Rattle.storage.proofs.Looking.{admittedIn, told-in, turned-down, let-through}
 use Rattle.storage.proofs.Figures.{AlikeAt, frames-alike, frame-at, frame-live, archive-past, well-figure, step-versions, step-archive}
 use Rattle.storage.proofs.Past.{lowered-long, lowered-past}
 use Rattle.storage.proofs.Numbers.{below-frame, below-archive}
@@ -299,7 +299,10 @@ module _ (x : Storage) (q : WellStore x) (k gone : ℕ) (some-k : 0 < k) (low : 
       }
 
 -- The promise: refused, and accepted.
-module _ (x : Storage) (k a : ℕ) (told : a ≡ admittedIn x (markedRefusal (liveIn (x .state)) k)) where
+module _ (x : Storage) (k a : ℕ) (p : Pieces) (are : p ≡ lengthsIn (x .memory)) (given : a ≡ admitted (registersIn (x .state)) p (markedRefusal (liveIn (x .state)) k)) where
+  told : a ≡ admittedIn x (markedRefusal (liveIn (x .state)) k)
+  told = told-in x (markedRefusal (liveIn (x .state)) k) a p are given
+
   pub advance-refused : a ≢ 0 → Advances x k a x
   unfolding refusal actRefusal factsBy refused
   advance-refused z = (turned-down x (ON (CHANGE (ADVANCE k))) a told z, λ e. absurd (z e))

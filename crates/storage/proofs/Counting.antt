@@ -6,6 +6,7 @@ use mathlib.Core.Option.{none, some}
 use Prim.Native.Nat.{ℕ, zero, suc, _+_, _-_, _*_, _/_, _<_, min}
 use native.Mathlib.Omega.{arith}
 use borrow.Author.Tests.{lt-ltb}
+use Rattle.rules.specs.Settings.{Pieces}
 use Rattle.rules.specs.Line.{Line}
 use Rattle.rules.specs.Call.{refused}
 use Rattle.rules.specs.Call.Answer.{counting}
@@ -20,10 +21,11 @@ use Rattle.rules.proofs.Count.{any-same, count-same}
 use Rattle.written.specs.Bits.{effective}
 use Rattle.pages.proofs.Moves.{segment-count}
 use Rattle.pages.proofs.Counting.{needed-pages}
-use Rattle.storage.specs.Storage.{Storage, liveIn, writtenIn, frameIn, versionAt, WellStore, store}
+use Rattle.storage.specs.Storage.{Storage, registersIn, lengthsIn, liveIn, writtenIn, frameIn, versionAt, WellStore, store}
+use Rattle.storage.specs.Admit.{admitted}
 use Rattle.storage.proofs.Rings.{used-same}
 use Rattle.storage.proofs.Limits.{limits}
-use Rattle.storage.proofs.Looking.{admittedIn, turned-down, let-through}
+use Rattle.storage.proofs.Looking.{admittedIn, told-in, turned-down, let-through}
 
 -- Pages are counted by the lines below L alone.
 pages-alike : (lines n : ℕ) (v w : ℕ → ℕ → Bool) → ((j l : ℕ) → j < n → l < lines → v j l ≡ w j l) → pagesOf (lines / 8) n v ≡ pagesOf (lines / 8) n w
@@ -54,7 +56,10 @@ pages-counted x q =
     ∙ (needed-pages (writtenIn x) (x .state .registers .tag) (liveIn (x .state)) (q .bits) (limits x (q .fits) .live-most)
     ∙ pages-alike (x .state .registers .lines) (liveIn (x .state)) _ _ (written-effective x))
 
-module _ (x : Storage) (a : ℕ) (told : a ≡ admittedIn x 0) where
+module _ (x : Storage) (a : ℕ) (p : Pieces) (are : p ≡ lengthsIn (x .memory)) (given : a ≡ admitted (registersIn (x .state)) p 0) where
+  told : a ≡ admittedIn x 0
+  told = told-in x 0 a p are given
+
   pub counts-refused : a ≢ 0 → Promise store (ON (LOOK COUNTS)) x (counting a 0 0) x
   unfolding refusal actRefusal factsBy refused
   counts-refused z = turned-down x (ON (LOOK COUNTS)) a told z

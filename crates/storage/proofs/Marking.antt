@@ -10,6 +10,7 @@ use native.Mathlib.Decide.{decLt}
 use native.Mathlib.Omega.{arith}
 use borrow.Author.Tests.{ltb-true, lt-ltb, le-ltb}
 use lib.Dec.{ltb}
+use Rattle.rules.specs.Settings.{Pieces}
 use Rattle.rules.specs.Line.{Line}
 use Rattle.rules.specs.Call.{Place, refused}
 use Rattle.rules.specs.Call.Place.{in-frame, in-archive}
@@ -33,12 +34,13 @@ use Rattle.cache.specs.Entries.{heldLine}
 use Rattle.storage.specs.declared.Registers.{Registers}
 use Rattle.versions.specs.Newest.{pageOf}
 use Rattle.storage.specs.Storage.{Storage, stateOf, settingsIn, registersIn, lengthsIn, liveIn, writtenIn, frameIn, archiveIn, versionAt, latestIn, frameNumber, newestFrame, WellStore, store}
+use Rattle.storage.specs.Admit.{admitted}
 use Rattle.storage.specs.Steps.{markedRegisters, markedState}
 use Rattle.storage.specs.Contracts.{Marks}
 use Rattle.storage.proofs.Limits.{Limits, limits}
 use Rattle.storage.proofs.Chains.{admitted-rest}
 use Rattle.storage.proofs.Figures.{well-figure, step-versions, step-archive}
-use Rattle.storage.proofs.Looking.{admittedIn, turned-down, let-through}
+use Rattle.storage.proofs.Looking.{admittedIn, told-in, turned-down, let-through}
 
 module _ (x : Storage) (q : WellStore x) (room : liveIn (x .state) < x .state .registers .frames) where
   abbrev n : ℕ
@@ -141,7 +143,10 @@ module _ (x : Storage) (q : WellStore x) (room : liveIn (x .state) < x .state .r
       }
 
 -- The promise: refused, and accepted.
-module _ (x : Storage) (r : ℕ) (told : r ≡ admittedIn x (unless (ltb (liveIn (x .state)) (x .state .registers .frames)) 12 0)) where
+module _ (x : Storage) (r : ℕ) (p : Pieces) (are : p ≡ lengthsIn (x .memory)) (given : r ≡ admitted (registersIn (x .state)) p (unless (ltb (liveIn (x .state)) (x .state .registers .frames)) 12 0)) where
+  told : r ≡ admittedIn x (unless (ltb (liveIn (x .state)) (x .state .registers .frames)) 12 0)
+  told = told-in x (unless (ltb (liveIn (x .state)) (x .state .registers .frames)) 12 0) r p are given
+
   pub mark-refused : r ≢ 0 → Marks x r x
   unfolding refusal actRefusal factsBy refused
   mark-refused z = (turned-down x (ON (CHANGE MARK)) r told z, λ e. absurd (z e))

@@ -42,12 +42,13 @@ use Rattle.storage.specs.declared.Registers.{Registers}
 use Rattle.storage.specs.declared.State.{State}
 use Rattle.versions.specs.Newest.{pageOf}
 use Rattle.storage.specs.Storage.{Storage, stateOf, storageOf, memoryOf, settingsIn, registersIn, lengthsIn, Recent, Coherent, liveIn, writtenIn, indexBack, frameIn, archiveIn, versionAt, latestIn, frameNumber, newestFrame, WellStore, store}
+use Rattle.storage.specs.Admit.{admitted}
 use Rattle.storage.specs.Steps.{PagesBelow, rolledRegisters, rolledState, RolledTo}
 use Rattle.storage.specs.Contracts.{RollsBack}
 use Rattle.storage.proofs.Rings.{ring-found}
 use Rattle.storage.proofs.Limits.{Limits, limits}
 use Rattle.storage.proofs.Chains.{frames-room}
-use Rattle.storage.proofs.Looking.{admittedIn, turned-down, let-through}
+use Rattle.storage.proofs.Looking.{admittedIn, told-in, turned-down, let-through}
 use Rattle.storage.proofs.Figures.{AlikeAt, frames-alike, well-figure, step-versions, step-archive}
 use Rattle.storage.proofs.Past.{rolled-groups-long, rolled-groups-past, rolled-history-long, rolled-history-past}
 use Rattle.storage.proofs.Numbers.{dropped-frame}
@@ -207,7 +208,10 @@ module _ (x : Storage) (q : WellStore x) (k : ℕ) (low : k ≤ liveIn (x .state
       }
 
 -- The promise: refused, and accepted. The tag given to the history is the state's, cut to its 8 bits.
-module _ (x : Storage) (k a : ℕ) (told : a ≡ admittedIn x (markedRefusal (liveIn (x .state)) k)) where
+module _ (x : Storage) (k a : ℕ) (p : Pieces) (are : p ≡ lengthsIn (x .memory)) (given : a ≡ admitted (registersIn (x .state)) p (markedRefusal (liveIn (x .state)) k)) where
+  told : a ≡ admittedIn x (markedRefusal (liveIn (x .state)) k)
+  told = told-in x (markedRefusal (liveIn (x .state)) k) a p are given
+
   pub rollback-refused : a ≢ 0 → RollsBack x k a x
   unfolding refusal actRefusal factsBy refused
   rollback-refused z = (turned-down x (ON (CHANGE (ROLLBACK k))) a told z, λ e. absurd (z e))

@@ -3,27 +3,21 @@ use mathlib.Core.Path.{_≡_, sym, _∙_, ap, subst}
 use mathlib.Core.List.{List}
 use Prim.Native.Nat.{ℕ, _-_, _≤_, _<_, min}
 use native.Mathlib.Omega.{arith}
-use lib.ListN.{length, set}
+use lib.ListN.{length}
 use Rattle.rules.specs.Settings.{Pieces, elements}
 use Rattle.rules.specs.Registers as rules
-use Rattle.numbers.specs.declared.Found.{Found}
-use Rattle.frames.specs.Circle.{frameAt}
 use Rattle.written.specs.Bits.{writtenAt, writtenOf, AsksWritten}
 use Rattle.written.specs.Steps.{RolledBack}
-use Rattle.written.specs.declared.Shape.{Shape}
 use Rattle.pages.specs.declared.Ring.{Ring}
-use Rattle.pages.specs.Table.{placeAt, entryAt}
 use Rattle.pages.specs.Ring.{nthPage, indexAt, AsksRing, Leading, Leads}
-use Rattle.versions.specs.declared.Version.{Version}
-use Rattle.versions.specs.Newest.{latestHeld}
-use Rattle.versions.specs.Steps.{foldedPages, clearedPages, pageFor, usedFor, AsksPageFor, AsksFold, AsksGone}
+use Rattle.versions.specs.Steps.{foldedPages, clearedPages, AsksPageFor, AsksFold, AsksGone}
 use Rattle.storage.specs.declared.Registers.{Registers}
 use Rattle.storage.specs.Storage.{startIn}
 use Rattle.storage.specs.Admit.{Room}
 use Rattle.storage.proofs.Admitting.{room-lent, room-ring, room-page}
 
 -- The ring by the registers that it is made of.
-abbrev seen : (lines frames omf pages first used : ℕ) → Ring
+abbrev pub seen : (lines frames omf pages first used : ℕ) → Ring
 seen lines frames omf pages first used =
     record { shape = record { lines = lines; frames = frames; omf = omf }; pages = pages; first = startIn first pages; used = min used pages }
 
@@ -103,14 +97,6 @@ module _ (lines frames omf pages first used : ℕ) (ring : Ring) (is : ring ≡ 
       → after ≡ clearedPages lines pages (startIn first pages) owners gone groups
   seen-cleared groups owners after gone e = e ∙ ap (λ (y : Ring). clearedPages (y .shape .lines) (y .pages) (y .first) owners gone groups) is
 
-  pub seen-page : (table owners : List ℕ) (f l : ℕ) (page : Found) → page ≡ pageFor (ring .shape .lines) (ring .pages) (ring .first) (ring .used) table owners f l
-      → page ≡ pageFor lines pages (startIn first pages) (min used pages) table owners f l
-  seen-page table owners f l page e = e ∙ ap (λ (y : Ring). pageFor (y .shape .lines) (y .pages) (y .first) (y .used) table owners f l) is
-
-  pub seen-used : (table owners : List ℕ) (f l now : ℕ) → now ≡ usedFor (ring .shape .lines) (ring .pages) (ring .first) (ring .used) table owners f l
-      → now ≡ usedFor lines pages (startIn first pages) (min used pages) table owners f l
-  seen-used table owners f l now e = e ∙ ap (λ (y : Ring). usedFor (y .shape .lines) (y .pages) (y .first) (y .used) table owners f l) is
-
   pub seen-advanced : (cmf next tag gone start : ℕ) → start ≡ nthPage (ring .pages) (ring .first) gone
       → _≡_ {A = Registers} (record { lines = lines; frames = frames; pages = pages; cmf = cmf; omf = next; tag = tag; first = start; used = ring .used - gone })
       (record { lines = lines; frames = frames; pages = pages; cmf = cmf; omf = next; tag = tag; first = nthPage pages (startIn first pages) gone; used = min used pages - gone })
@@ -125,19 +111,3 @@ module _ (lines frames omf pages first used : ℕ) (ring : Ring) (is : ring ≡ 
         first = (e ∙ ap (λ (y : Ring). nthPage (y .pages) (y .first) gone) is) i;
         used = ap (λ (y : Ring). y .used - gone) is i;
       }
-
--- What a write's place is, by the shape, and the version before it.
-module _ (shape at : Shape) (is : shape ≡ at) where
-  pub shape-entry : (index block page : ℕ) (before after : List ℕ) → after ≡ set before (entryAt (shape .lines) (frameAt (shape .frames) (shape .omf) index) block) page
-      → after ≡ set before (entryAt (at .lines) (frameAt (at .frames) (at .omf) index) block) page
-  shape-entry index block page before after e = e ∙ ap (λ (y : Shape). set before (entryAt (y .lines) (frameAt (y .frames) (y .omf) index) block) page) is
-
-  pub shape-owner : (index block page : ℕ) (before after : List ℕ) → after ≡ set before page (placeAt (frameAt (shape .frames) (shape .omf) index) block)
-      → after ≡ set before page (placeAt (frameAt (at .frames) (at .omf) index) block)
-  shape-owner index block page before after e = e ∙ ap (λ (y : Shape). set before page (placeAt (frameAt (y .frames) (y .omf) index) block)) is
-
-  pub shape-latest : (held origins valid bytes groups history : List ℕ) (pages live : ℕ) (archive pool table : List ℕ) (line : ℕ) (v : Version)
-      → v ≡ latestHeld held origins valid bytes (writtenAt shape groups history) pages live archive pool table line
-      → v ≡ latestHeld held origins valid bytes (writtenAt at groups history) pages live archive pool table line
-  shape-latest held origins valid bytes groups history pages live archive pool table line v e =
-      e ∙ ap (λ (y : Shape). latestHeld held origins valid bytes (writtenAt y groups history) pages live archive pool table line) is

@@ -5,6 +5,7 @@ use mathlib.Core.Bool.{cond}
 use mathlib.Core.List.{List, []}
 use Prim.Native.Nat.{ℕ, _-_, _/_, _%_, _<_}
 use lib.ListN.{length, set}
+use Rattle.rules.specs.Settings.{Pieces}
 use Rattle.rules.specs.Line.{Line, lineOf, offsetOf, valueAt}
 use Rattle.rules.specs.Call.{Answer, refused}
 use Rattle.rules.specs.Call.Place.{in-archive}
@@ -39,10 +40,11 @@ use Rattle.versions.specs.Newest.{pageOf, spotOf, contentOf, originOf, newestOf
 use Rattle.versions.proofs.Finding.{latest-hit, latest-miss}
 use Rattle.storage.specs.declared.State.{State}
 use Rattle.storage.specs.Storage.{Storage, stateOf, settingsIn, registersIn, lengthsIn, liveIn, writtenIn, frameIn, archiveIn, versionAt, latestIn, newestFrame, Recent, WellStore, store}
+use Rattle.storage.specs.Admit.{admitted}
 use Rattle.storage.specs.Steps.{givenRegisters, usedState, readState}
 use Rattle.storage.specs.Contracts.{Reads}
 use Rattle.storage.proofs.Chains.{admitted-rest, line-room}
-use Rattle.storage.proofs.Looking.{admittedIn, turned-down, let-through}
+use Rattle.storage.proofs.Looking.{admittedIn, told-in, turned-down, let-through}
 use Rattle.storage.proofs.Numbers.{used-number}
 use Rattle.storage.proofs.Reading.{well-findable, content-latest, latest-told, latest-line}
 
@@ -100,7 +102,10 @@ module _ (x : Storage) (w a : ℕ) where
         cache = used-cache x q l b;
       }
 
-  module _ (r : ℕ) (told : r ≡ admittedIn x (placeRefusal (settingsIn (x .state)) w a 0)) where
+  module _ (r : ℕ) (p : Pieces) (are : p ≡ lengthsIn (x .memory)) (given : r ≡ admitted (registersIn (x .state)) p (placeRefusal (settingsIn (x .state)) w a 0)) where
+    told : r ≡ admittedIn x (placeRefusal (settingsIn (x .state)) w a 0)
+    told = told-in x (placeRefusal (settingsIn (x .state)) w a 0) r p are given
+
     pub read-refused : r ≢ 0 → Reads x w a r 0 (from in-archive) x
     unfolding refusal actRefusal factsBy refused
     read-refused z = (turned-down x (ON (READ w a)) r told z, λ e. absurd (z e))
@@ -189,20 +194,23 @@ module _ (x : Storage) (w a : ℕ) where
           read-misses = (read-told live live-is v found-is value valued loaded loaded-is, λ e. (refl, read-state live live-is v found-is value valued loaded loaded-is))
 
 -- LINE lends the bytes where they stand.
-module _ (x : Storage) (l r : ℕ) (told : r ≡ admittedIn x (lineRefusal (settingsIn (x .state)) l)) where
+module _ (x : Storage) (l r : ℕ) (p : Pieces) (are : p ≡ lengthsIn (x .memory)) (given : r ≡ admitted (registersIn (x .state)) p (lineRefusal (settingsIn (x .state)) l)) where
+  told-line : r ≡ admittedIn x (lineRefusal (settingsIn (x .state)) l)
+  told-line = told-in x (lineRefusal (settingsIn (x .state)) l) r p are given
+
   pub line-refused : r ≢ 0 → Promise store (ON (LOOK (LINE l))) x (lending []) x
   unfolding refusal actRefusal factsBy refused
-  line-refused z = turned-down x (ON (LOOK (LINE l))) r told z
+  line-refused z = turned-down x (ON (LOOK (LINE l))) r told-line z
 
   module _ (z : r ≡ 0) (live : ℕ) (live-is : live ≡ liveIn (x .state)) (found : Found) (found-is : found ≡ newestFrom (writtenIn x) l (live - 1))
       (spot : Spot) (spot-is : spot ≡ spotOf (x .state .registers .lines) (x .state .registers .frames) (x .state .registers .omf) (x .state .registers .pages) (x .memory .table) l found) where
     content-is : (bytes : List ℕ) → bytes ≡ contentOf (x .memory .archive) (x .memory .pool) l spot → WellStore x → lending bytes ≡ accepted (seenOf store x) (holds (store .cache x)) (LOOK (LINE l))
     unfolding accepted seenOf figureSeen mrv latestIn
-    content-is bytes e q = ap lending (e ∙ (ap (contentOf (x .memory .archive) (x .memory .pool) l) (spot-is ∙ ap (spotOf (x .state .registers .lines) (x .state .registers .frames) (x .state .registers .omf) (x .state .registers .pages) (x .memory .table) l) (found-is ∙ ap (λ (m : ℕ). newestFrom (writtenIn x) l (m - 1)) live-is)) ∙ content-latest x (well-findable x q) l (line-room (registersIn (x .state)) (lengthsIn (x .memory)) r l told z .line-below)))
+    content-is bytes e q = ap lending (e ∙ (ap (contentOf (x .memory .archive) (x .memory .pool) l) (spot-is ∙ ap (spotOf (x .state .registers .lines) (x .state .registers .frames) (x .state .registers .omf) (x .state .registers .pages) (x .memory .table) l) (found-is ∙ ap (λ (m : ℕ). newestFrom (writtenIn x) l (m - 1)) live-is)) ∙ content-latest x (well-findable x q) l (line-room (registersIn (x .state)) (lengthsIn (x .memory)) r l told-line z .line-below)))
 
     told-so : (bytes : List ℕ) → bytes ≡ contentOf (x .memory .archive) (x .memory .pool) l spot → Promise store (ON (LOOK (LINE l))) x (lending bytes) x
     unfolding refusal actRefusal factsBy refused
-    told-so bytes e = let-through x (ON (LOOK (LINE l))) r told z refl (record { kept = refl; answer = content-is bytes e }) refl refl
+    told-so bytes e = let-through x (ON (LOOK (LINE l))) r told-line z refl (record { kept = refl; answer = content-is bytes e }) refl refl
 
     pub line-in-page : (p : ℕ) (bytes : List ℕ) → spot ≡ Page p → bytes ≡ pageLine (x .memory .pool) p (l % 8) → Promise store (ON (LOOK (LINE l))) x (lending bytes) x
     unfolding contentOf

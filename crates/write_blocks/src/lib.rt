@@ -3,12 +3,11 @@
 use storage::Registers;
 use storage::Step;
 ghost use mathlib.Core.Path.{_≡_};
-ghost use Prim.Native.Nat.{_/_, _≤_, _<_};
+ghost use Prim.Native.Nat.{_/_, _<_};
 ghost use lib.ListN.{length};
 ghost use Rattle.cache.specs.Entries.{cacheOf};
-ghost use Rattle.storage.specs.Storage.{memoryOf, lengthsIn, registersOf, stateOf, storageOf};
-ghost use Rattle.storage.specs.Admit.{admitted};
-ghost use Rattle.storage.specs.Contracts.{WritesItems, WritesBlock};
+ghost use Rattle.storage.specs.Storage.{stateOf, storageOf};
+ghost use Rattle.storage.specs.Contracts.{WritesBlock};
 ghost use Rattle.write_blocks.specs.Items.{itemOf, itemAt, itemsOf};
 
 // An item: a single WRITE.
@@ -30,8 +29,9 @@ fn item_at(items: &[u32], i: usize) -> Item
     }
 }
 
-// Does the items in order: each item's refusal, or 0, goes to its place in the answers, and a refused one is passed over.
-fn write_items(
+// A block of writes: three numbers an item, its width, address and value; one or two numbers left over at the end are no item. The answers
+// are lent for this call: each item's refusal, or 0, goes to its place, and what lies behind them stays. A refused item is passed over.
+pub fn write_block(
     registers: Registers,
     held: &mut [u32; 32],
     origins: &mut [u16; 32],
@@ -46,14 +46,18 @@ fn write_items(
     history: &[u16],
     items: &[u32],
     answers: &mut [u32],
-) -> Registers
-    requires { ⌜ (admitted (registersOf registers) (lengthsIn (memoryOf (now archive) (now pool) (now groups) (now table) (now owners) (now history))) 0 ≡ 0) × (length (now items) / 3 ≤ length (now answers)) ⌝ }
-    ensures { λ r. ⌜ WritesItems
+) -> Step
+    ensures { λ r. ⌜ WritesBlock
         (storageOf (stateOf registers (cacheOf (now (held .entry)) (now (origins .entry)) (now (valid .entry)) (now (bytes .entry)) (now (last .entry)))) (now (archive .entry)) (now (pool .entry)) (now (groups .entry)) (now (table .entry)) (now (owners .entry)) (now (history .entry)))
-        (itemsOf (now (items .entry))) (now (answers .entry)) (now (answers .exit))
-        (storageOf (stateOf r (cacheOf (now (held .exit)) (now (origins .exit)) (now (valid .exit)) (now (bytes .exit)) (now (last .exit)))) (now (archive .entry)) (now (pool .exit)) (now (groups .exit)) (now (table .exit)) (now (owners .exit)) (now (history .entry))) ⌝ }
+        (itemsOf (now (items .entry))) (now (answers .entry)) (r .refusal) (now (answers .exit))
+        (storageOf (stateOf (r .registers) (cacheOf (now (held .exit)) (now (origins .exit)) (now (valid .exit)) (now (bytes .exit)) (now (last .exit)))) (now (archive .entry)) (now (pool .exit)) (now (groups .exit)) (now (table .exit)) (now (owners .exit)) (now (history .entry))) ⌝ }
 {
     let count = items.len() / 3;
+    let lengths = storage::measure(archive, pool, groups, table, owners, history);
+    let refusal = storage::admit_write_block(registers, lengths, count, answers.len());
+    if refusal != 0 {
+        return Step { registers, refusal };
+    }
     let mut current = registers;
     let mut i = 0;
     while i < count {
@@ -79,55 +83,8 @@ fn write_items(
         answers[i] = step.refusal;
         i = i + 1;
     }
-    current
-}
-
-// A block of writes: three numbers an item, its width, address and value; one or two numbers left over at the end are no item. The answers
-// are lent for this call: one for each item, and what lies behind them stays.
-pub fn write_block(
-    registers: Registers,
-    held: &mut [u32; 32],
-    origins: &mut [u16; 32],
-    valid: &mut [u8; 32],
-    bytes: &mut [u8; 512],
-    last: &mut [u8; 16],
-    archive: &[u8],
-    pool: &mut [u8],
-    groups: &mut [u32],
-    table: &mut [u16],
-    owners: &mut [u32],
-    history: &[u16],
-    items: &[u32],
-    answers: &mut [u32],
-) -> Step
-    ensures { λ r. ⌜ WritesBlock
-        (storageOf (stateOf registers (cacheOf (now (held .entry)) (now (origins .entry)) (now (valid .entry)) (now (bytes .entry)) (now (last .entry)))) (now (archive .entry)) (now (pool .entry)) (now (groups .entry)) (now (table .entry)) (now (owners .entry)) (now (history .entry)))
-        (itemsOf (now (items .entry))) (now (answers .entry)) (r .refusal) (now (answers .exit))
-        (storageOf (stateOf (r .registers) (cacheOf (now (held .exit)) (now (origins .exit)) (now (valid .exit)) (now (bytes .exit)) (now (last .exit)))) (now (archive .entry)) (now (pool .exit)) (now (groups .exit)) (now (table .exit)) (now (owners .exit)) (now (history .entry))) ⌝ }
-{
-    let lengths = storage::measure(archive, pool, groups, table, owners, history);
-    let refusal = storage::admit_write_block(registers, lengths, items.len() / 3, answers.len());
-    if refusal != 0 {
-        return Step { registers, refusal };
-    }
-    let after = write_items(
-        registers,
-        held,
-        origins,
-        valid,
-        bytes,
-        last,
-        archive,
-        pool,
-        groups,
-        table,
-        owners,
-        history,
-        items,
-        answers,
-    );
     Step {
-        registers: after,
+        registers: current,
         refusal: 0,
     }
 }

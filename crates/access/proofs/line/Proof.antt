@@ -2,7 +2,7 @@
 use borrow.Author.Needs.{needs}
 use native.Mathlib.Omega.{arith}
 use Rattle.storage.proofs.Admitting.{room-turn, room-lent}
-use Rattle.storage.proofs.Chains.{measured, line-measured, line-spot, line-content}
+use Rattle.storage.proofs.Chains.{line-measured, line-spot, line-content}
 use Rattle.storage.proofs.Using.{line-refused, line-in-page, line-in-archive}
 use Rattle.access.proofs.line.Statement.{statement}
 use Rattle.access.proofs.line.Tie as tie
@@ -23,7 +23,7 @@ part-result-end : tie.Need-part-result-end
 part-result-end c = search needs
 
 returns : tie.Need-returns
-returns c _ = let t : tie.Then1 = search in line-refused _ _ _ (measured _ _ (t .before .before .measure .ensures) (t .before .admit-line .ensures .0)) (t .if1 .taken)
+returns c _ = let t : tie.Then1 = search in line-refused _ _ _ _ (t .before .before .measure .ensures) (t .before .admit-line .ensures .0) (t .if1 .taken)
 
 live-requires : tie.Need-live-requires
 live-requires c κs = room-turn _ _ (c .before .admit-line .ensures .1 (c .if1 .left) .room)
@@ -82,9 +82,9 @@ returns-2 c _ =
     let h : tie.After-shape = search in
     let l : tie.After-live = search in
     let e : tie.Else1 = search in
-    let told = measured _ _ (e .before .before .measure .ensures) (e .before .admit-line .ensures .0) in
     let is = h .shape .ensures in
-    line-in-page _ _ _ told (e .if1 .left) _ (l .live .ensures) _ (rw is at (f .search .ensures)) _ (rw is at (s .locate .ensures)) _ _ (p .page .given .1) (c .page-line .ensures)
+    line-in-page _ _ _ _ (e .before .before .measure .ensures) (e .before .admit-line .ensures .0) (e .if1 .left)
+    _ (l .live .ensures) _ (rw is at (f .search .ensures)) _ (rw is at (s .locate .ensures)) _ _ (p .page .given .1) (c .page-line .ensures)
 
 returns-3 : tie.Need-returns-3
 returns-3 c _ =
@@ -94,9 +94,9 @@ returns-3 c _ =
     let h : tie.After-shape = search in
     let l : tie.After-live = search in
     let e : tie.Else1 = search in
-    let told = measured _ _ (e .before .before .measure .ensures) (e .before .admit-line .ensures .0) in
     let is = h .shape .ensures in
-    line-in-archive _ _ _ told (e .if1 .left) _ (l .live .ensures) _ (rw is at (f .search .ensures)) _ (rw is at (s .locate .ensures)) _ (t .enum-told .given .1) (c .archive-line .ensures)
+    line-in-archive _ _ _ _ (e .before .before .measure .ensures) (e .before .admit-line .ensures .0) (e .if1 .left)
+    _ (l .live .ensures) _ (rw is at (f .search .ensures)) _ (rw is at (s .locate .ensures)) _ (t .enum-told .given .1) (c .archive-line .ensures)
 
 pub line-spec : {M : Type 1} → statement M
 line-spec =

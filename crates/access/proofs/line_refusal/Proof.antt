@@ -1,6 +1,5 @@
 -- `access::line_refusal` meets its contract. Assumes nothing.
 use borrow.Author.Needs.{needs}
-use Rattle.storage.proofs.Chains.{measured}
 use Rattle.storage.proofs.Looking.{companion}
 use Rattle.access.proofs.line_refusal.Statement.{statement}
 use Rattle.access.proofs.line_refusal.Tie as tie
@@ -12,7 +11,7 @@ admit-line-requires : tie.Need-admit-line-requires
 admit-line-requires c κs = search needs
 
 returns : tie.Need-returns
-returns c _ = companion _ _ _ (measured _ _ (c .before .measure .ensures) (c .admit-line .ensures .0))
+returns c _ = companion _ _ _ _ (c .before .measure .ensures) (c .admit-line .ensures .0)
 
 pub line-refusal-spec : {M : Type 1} → statement M
 line-refusal-spec = tie.close (tie.spec measure-requires admit-line-requires returns)

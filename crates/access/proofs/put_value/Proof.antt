@@ -1,6 +1,4 @@
 -- `access::put_value` meets its contract. Assumes nothing.
-use Prim.Native.Nat.{_-_, _/_}
-use Rattle.storage.proofs.Seeing.{shape-latest, shape-entry, shape-owner}
 use Rattle.storage.proofs.Storing.{put-told}
 use borrow.Author.Needs.{needs}
 use native.Mathlib.Omega.{arith}
@@ -36,11 +34,8 @@ returns c =
     let p : tie.After-put = search in
     let e = edited-at p in
     let l : tie.After-latest = search in
-    let is = shape-at e .shape .ensures in
-    let s = start-at e .args in
-    put-told _ _ _ _ _ _ _ (shape-latest _ _ is _ _ _ _ _ _ _ _ _ _ _ _ _ (l .latest .ensures)) _ (e .edited .ensures) (search (needs, e .edited .ok)) _ _ _ _ (p .put .ensures .0) (rw is at (p .put .ensures .1 .0))
-    (shape-entry _ _ is (s .live - 1) (s .address / 16 / 8) (s .page) (s .table .now) _ (p .put .ensures .1 .1 .0))
-    (shape-owner _ _ is (s .live - 1) (s .address / 16 / 8) (s .page) (s .owners .now) _ (p .put .ensures .1 .1 .1)) _ (c .place .ensures)
+    put-told _ _ _ _ _ _ _ (shape-at e .shape .ensures) _ (l .latest .ensures) _ (e .edited .ensures) (search (needs, e .edited .ok)) _ _ _ _ (p .put .ensures .0) (p .put .ensures .1 .0) (p .put .ensures .1 .1 .0)
+    (p .put .ensures .1 .1 .1) _ (c .place .ensures)
 
 pub put-value-spec : {M : Type 1} → statement M
 put-value-spec =

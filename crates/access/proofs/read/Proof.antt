@@ -3,7 +3,7 @@ use mathlib.Core.Path.{refl}
 use Rattle.cache.proofs.Hits.{found-below}
 use Rattle.versions.specs.Newest.{originOf}
 use Rattle.storage.proofs.Admitting.{room-turn, room-newest}
-use Rattle.storage.proofs.Chains.{measured, place-measured}
+use Rattle.storage.proofs.Chains.{place-measured}
 use Rattle.storage.proofs.Using.{read-refused, read-hits, read-misses}
 use borrow.Author.Needs.{needs}
 use Rattle.access.proofs.read.Statement.{statement}
@@ -11,7 +11,7 @@ use Rattle.access.proofs.read.Tie as tie
 
 returns : tie.Need-returns
 unfolding originOf
-returns c = read-refused _ _ _ _ (measured _ _ (c .before .before .measure .ensures) (c .before .admit-place .ensures .0)) (c .if1 .taken)
+returns c = read-refused _ _ _ _ _ (c .before .before .measure .ensures) (c .before .admit-place .ensures .0) (c .if1 .taken)
 
 line-at-requires : tie.Need-line-at-requires
 line-at-requires c κs = search found-below
@@ -43,8 +43,8 @@ returns-2 c =
     let n : tie.After-entry = search in
     let f : tie.After-find = search in
     let e : tie.Else1 = search in
-    let told = measured _ _ (e .before .before .measure .ensures) (e .before .admit-place .ensures .0) in
-    read-hits _ _ _ _ told (e .if1 .left) _ refl _ (f .find .ensures) _ (n .entry .given .1) _ (b .line-at .ensures) _ (v .value-of .ensures) _ (u .recall .ensures)
+    read-hits _ _ _ _ _ (e .before .before .measure .ensures) (e .before .admit-place .ensures .0) (e .if1 .left)
+    _ refl _ (f .find .ensures) _ (n .entry .given .1) _ (b .line-at .ensures) _ (v .value-of .ensures) _ (u .recall .ensures)
 
 returns-3 : tie.Need-returns-3
 returns-3 c =
@@ -54,8 +54,8 @@ returns-3 c =
     let t : tie.After-enum-told = search in
     let f : tie.After-find = search in
     let e : tie.Else1 = search in
-    let told = measured _ _ (e .before .before .measure .ensures) (e .before .admit-place .ensures .0) in
-    read-misses _ _ _ _ told (e .if1 .left) _ (l .live .ensures) _ (f .find .ensures) (t .enum-told .given .1) _ (d .load .ensures .0) _ (v .value-of2 .ensures) _ (d .load .ensures .1)
+    read-misses _ _ _ _ _ (e .before .before .measure .ensures) (e .before .admit-place .ensures .0) (e .if1 .left)
+    _ (l .live .ensures) _ (f .find .ensures) (t .enum-told .given .1) _ (d .load .ensures .0) _ (v .value-of2 .ensures) _ (d .load .ensures .1)
 
 pub read-spec : {M : Type 1} → statement M
 read-spec =

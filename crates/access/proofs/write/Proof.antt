@@ -1,20 +1,18 @@
 -- `access::write` meets its contract. Assumes nothing.
-use mathlib.Core.Path.{sym, _∙_}
-use Rattle.storage.proofs.Chains.{measured, admitted-turned}
-use Rattle.storage.proofs.Storing.{write-refused}
+use Rattle.storage.proofs.Chains.{measured-none}
+use Rattle.storage.proofs.Storing.{write-turned}
 use borrow.Author.Needs.{needs}
 use Rattle.access.proofs.write.Statement.{statement}
 use Rattle.access.proofs.write.Tie as tie
 
 returns : tie.Need-returns
-returns c =
-    write-refused _ _ _ _ _ (admitted-turned _ _ _ (measured _ _ (c .before .before .measure .ensures) (c .before .admit .ensures .0)) _ (c .if1 .taken)) (c .if1 .taken)
+returns c = write-turned _ _ _ _ _ _ (c .before .before .measure .ensures) (c .before .admit .ensures .0) (c .if1 .taken)
 
 write-admitted-requires : tie.Need-write-admitted-requires
 write-admitted-requires c κs =
     let m = c .before .before .before .before .before in
     let e : tie.Else1 = m .before .before .before .before in
-    sym (measured _ 0 (e .before .before .measure .ensures) (e .before .admit .ensures .0)) ∙ e .if1 .left
+    measured-none _ (e .before .before .measure .ensures) (e .before .admit .ensures .0) (e .if1 .left)
 
 pub write-spec : {M : Type 1} → statement M
 write-spec =

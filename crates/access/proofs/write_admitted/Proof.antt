@@ -1,9 +1,6 @@
 -- `access::write_admitted` meets its contract. Assumes nothing.
-use mathlib.Core.Path.{refl, sym, _∙_}
 use Rattle.storage.proofs.Admitting.{room-passed, room-turn}
-use Rattle.storage.proofs.Seeing.{seen-page-asks, seen-page, seen-used}
-use Rattle.storage.proofs.Chains.{admitted-on, write-room}
-use Rattle.storage.proofs.Storing.{write-refused, asks-write, write-full, write-done}
+use Rattle.storage.proofs.Storing.{write-refused, write-page-asks, asks-write, write-full, write-done}
 use borrow.Author.Needs.{needs}
 use Rattle.access.proofs.write_admitted.Statement.{statement}
 use Rattle.access.proofs.write_admitted.Tie as tie
@@ -16,10 +13,7 @@ write-refusal-requires : tie.Need-write-refusal-requires
 write-refusal-requires c κs = let s : tie.Start = search in let r = room-passed _ _ (s .pre) in (r .lines-from, r .lines-to)
 
 returns : tie.Need-returns
-returns c =
-    let s : tie.Start = search in
-    let w : tie.After-write-refusal = search in
-    write-refused _ _ _ _ _ (admitted-on _ _ 0 (sym (s .pre)) refl _ _ (w .write-refusal .ensures)) (c .if1 .taken)
+returns c = let w = c .before in write-refused _ _ _ _ _ (start-at w .pre) (w .write-refusal .ensures) (c .if1 .taken)
 
 live-requires : tie.Need-live-requires
 live-requires c κs = let s : tie.Start = search in room-turn _ _ (room-passed _ _ (s .pre))
@@ -29,9 +23,7 @@ page-for-requires c κs =
     let r : tie.After-ring = search in
     let e : tie.Else1 = search in
     let w = e .before in
-    let told = admitted-on _ _ 0 (sym (start-at w .pre)) refl _ _ (w .write-refusal .ensures) in
-    let g = write-room _ _ _ _ _ _ told (e .if1 .left) .0 in
-    seen-page-asks _ _ (g .room) _ _ _ (r .ring .ensures) _ (g .line-below)
+    write-page-asks _ _ _ _ _ _ (start-at w .pre) (w .write-refusal .ensures) (e .if1 .left) _ _ _ (r .ring .ensures)
 
 put-value-requires : tie.Need-put-value-requires
 put-value-requires c κs =
@@ -41,8 +33,7 @@ put-value-requires c κs =
     let l : tie.After-live = search in
     let e : tie.Else1 = search in
     let w = e .before in
-    let told = admitted-on _ _ 0 (sym (start-at w .pre)) refl _ _ (w .write-refusal .ensures) in
-    asks-write _ _ _ _ _ told (e .if1 .left) _ _ (l .live .ensures) (sym (seen-page _ _ _ _ _ _ _ (r .ring .ensures) _ _ _ _ _ (p .page-for .ensures .0)) ∙ f .found .given .1)
+    asks-write _ _ _ _ _ (start-at w .pre) (w .write-refusal .ensures) (e .if1 .left) _ (r .ring .ensures) _ (p .page-for .ensures .0) _ _ (l .live .ensures) (f .found .given .1)
 
 returns-2 : tie.Need-returns-2
 returns-2 c =
@@ -53,9 +44,8 @@ returns-2 c =
     let l : tie.After-live = search in
     let e : tie.Else1 = search in
     let w = e .before in
-    let told = admitted-on _ _ 0 (sym (start-at w .pre)) refl _ _ (w .write-refusal .ensures) in
-    write-done _ _ _ _ _ told (e .if1 .left) _ (seen-page _ _ _ _ _ _ _ (r .ring .ensures) _ _ _ _ _ (p .page-for .ensures .0)) _ (f .found .given .1) _ (l .live .ensures) _ _ (v .put-value .ensures) _
-    (seen-used _ _ _ _ _ _ _ (r .ring .ensures) _ _ _ _ _ (p .page-for .ensures .1))
+    write-done _ _ _ _ _ (start-at w .pre) (w .write-refusal .ensures) (e .if1 .left) _ (r .ring .ensures) _ (p .page-for .ensures .0) _ (f .found .given .1) _ (l .live .ensures) _ _ (v .put-value .ensures) _
+    (p .page-for .ensures .1)
 
 returns-3 : tie.Need-returns-3
 returns-3 c =
@@ -63,8 +53,7 @@ returns-3 c =
     let r : tie.After-ring = search in
     let e : tie.Else1 = search in
     let w = e .before in
-    let told = admitted-on _ _ 0 (sym (start-at w .pre)) refl _ _ (w .write-refusal .ensures) in
-    write-full _ _ _ _ _ told (e .if1 .left) (sym (seen-page _ _ _ _ _ _ _ (r .ring .ensures) _ _ _ _ _ (p .page-for .ensures .0)) ∙ c .enum-told .given .1)
+    write-full _ _ _ _ _ (start-at w .pre) (w .write-refusal .ensures) (e .if1 .left) _ (r .ring .ensures) _ (p .page-for .ensures .0) (c .enum-told .given .1)
 
 pub write-admitted-spec : {M : Type 1} → statement M
 write-admitted-spec =

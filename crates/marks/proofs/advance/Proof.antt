@@ -3,7 +3,7 @@ use mathlib.Core.Path.{ap}
 use Rattle.pages.specs.declared.Ring.{Ring}
 use Rattle.storage.proofs.Admitting.{room-circle}
 use Rattle.storage.proofs.Seeing.{seen-asks, seen-fold-asks, seen-gone-asks, seen-first, seen-folded, seen-cleared, seen-advanced}
-use Rattle.storage.proofs.Chains.{measured, frames-measured}
+use Rattle.storage.proofs.Chains.{frames-measured}
 use Rattle.storage.proofs.Collecting.{advance-refused, advance-collects}
 use borrow.Author.Needs.{needs}
 use native.Mathlib.Omega.{arith}
@@ -26,7 +26,7 @@ same-length-3 : tie.Need-same-length-3
 same-length-3 c = search needs
 
 returns : tie.Need-returns
-returns c = λ _ _ _ _. advance-refused _ _ _ (measured _ _ (c .before .before .measure .ensures) (c .before .admit-frames .ensures .0)) (c .if1 .taken)
+returns c = λ _ _ _ _. advance-refused _ _ _ _ (c .before .before .measure .ensures) (c .before .admit-frames .ensures .0) (c .if1 .taken)
 
 ring-requires : tie.Need-ring-requires
 ring-requires c κs = search needs
@@ -94,9 +94,8 @@ returns-2 c =
     let r : tie.After-ring = search in
     let e : tie.Else1 = search in
     let is = r .ring .ensures in
-    let told = measured _ _ (e .before .before .measure .ensures) (e .before .admit-frames .ensures .0) in
     λ _ _ _ _.
-    advance-collects _ _ _ told _ (seen-first _ _ _ _ _ _ _ is _ _ _ (f .fold .ensures .0)) (e .if1 .left) _ _ _
+    advance-collects _ _ _ _ (e .before .before .measure .ensures) (e .before .admit-frames .ensures .0) _ (seen-first _ _ _ _ _ _ _ is _ _ _ (f .fold .ensures .0)) (e .if1 .left) _ _ _
     (seen-folded _ _ _ _ _ _ _ is _ _ _ _ _ _ _ (f .fold .ensures .1)) (seen-cleared _ _ _ _ _ _ _ is _ _ _ _ (w .clear .ensures)) (l .lower .ensures) _ _
     (seen-advanced _ _ _ _ _ _ _ is _ _ _ _ _ (n .nth-page .ensures)) (k .collect .ensures)
 

@@ -1,6 +1,5 @@
 -- `marks::mark` meets its contract. Assumes nothing.
 use mathlib.Core.Path.{refl}
-use Rattle.storage.proofs.Chains.{measured}
 use Rattle.storage.proofs.Marking.{mark-refused, mark-opens}
 use borrow.Author.Needs.{needs}
 use native.Mathlib.Omega.{arith}
@@ -14,7 +13,7 @@ admit-mark-requires : tie.Need-admit-mark-requires
 admit-mark-requires c κs = search needs
 
 returns : tie.Need-returns
-returns c = λ _. mark-refused _ _ (measured _ _ (c .before .before .measure .ensures) (c .before .admit-mark .ensures .0)) (c .if1 .taken)
+returns c = λ _. mark-refused _ _ _ (c .before .before .measure .ensures) (c .before .admit-mark .ensures .0) (c .if1 .taken)
 
 add-next : tie.Need-add-next
 add-next c = let e : tie.Else1 = search in omega (arith, e .before .admit-mark .ensures .1 (e .if1 .left))
@@ -25,7 +24,7 @@ rem-next c = let e : tie.Else1 = search in omega (arith, e .before .admit-mark .
 returns-2 : tie.Need-returns-2
 returns-2 c =
     let e : tie.Else1 = search in
-    λ _. mark-opens _ _ (measured _ _ (e .before .before .measure .ensures) (e .before .admit-mark .ensures .0)) (e .if1 .left) _ refl
+    λ _. mark-opens _ _ _ (e .before .before .measure .ensures) (e .before .admit-mark .ensures .0) (e .if1 .left) _ refl
 
 pub mark-spec : {M : Type 1} → statement M
 mark-spec =

@@ -2,7 +2,7 @@
 use mathlib.Core.Path.{refl}
 use Rattle.storage.proofs.Admitting.{room-turn, room-circle, room-lent}
 use Rattle.storage.proofs.Seeing.{seen-asks, seen-below, seen-lent, seen-rolled}
-use Rattle.storage.proofs.Chains.{measured, frames-measured}
+use Rattle.storage.proofs.Chains.{frames-measured}
 use Rattle.storage.proofs.Rolling.{rollback-refused, rollback-drops}
 use borrow.Author.Needs.{needs}
 use native.Mathlib.Omega.{arith}
@@ -22,7 +22,7 @@ same-length-2 : tie.Need-same-length-2
 same-length-2 c = search needs
 
 returns : tie.Need-returns
-returns c = λ _ _ _. rollback-refused _ _ _ (measured _ _ (c .before .before .measure .ensures) (c .before .admit-frames .ensures .0)) (c .if1 .taken)
+returns c = λ _ _ _. rollback-refused _ _ _ _ (c .before .before .measure .ensures) (c .before .admit-frames .ensures .0) (c .if1 .taken)
 
 live-requires : tie.Need-live-requires
 live-requires c κs = room-turn _ _ (c .before .admit-frames .ensures .1 (c .if1 .left) .room)
@@ -77,9 +77,8 @@ returns-2 c =
     let l : tie.After-live = search in
     let e : tie.Else1 = search in
     let is = r .ring .ensures in
-    let told = measured _ _ (e .before .before .measure .ensures) (e .before .admit-frames .ensures .0) in
     λ _ _ _.
-    rollback-drops _ _ _ told (e .if1 .left) _ (l .live .ensures) _ _ _ _ (seen-rolled _ _ _ _ _ _ _ is _ _ _ _ _ _ _ (b .rollback .ensures))
+    rollback-drops _ _ _ _ (e .before .before .measure .ensures) (e .before .admit-frames .ensures .0) (e .if1 .left) _ (l .live .ensures) _ _ _ _ (seen-rolled _ _ _ _ _ _ _ is _ _ _ _ _ _ _ (b .rollback .ensures))
     (seen-below _ _ _ _ _ _ _ is _ _ _ (p .pages-below .ensures)) _ _ refl (c .before .before .forget .ensures)
 
 pub rollback-spec : {M : Type 1} → statement M

@@ -1,71 +1,37 @@
 // A block on the store, and its items one by one on the same store in a second set of memory: what they answer and leave is compared.
 use crate::subject::Told;
 use crate::subject::said;
-use choices::items;
-use choices::items::Source;
+use choices::items::answers_lent;
 use copies::Call;
 use copies::item_at;
 use copies::pieces;
-use copies::pieces::caches_apart;
-use copies::pieces::pieces_apart;
-use copies::pieces::place_apart;
-use copies::pieces::words_apart;
 use store::Outcome;
 use store::Registers;
 use store::State;
 
-// A count, and in how many registers two states differ.
-fn registers_apart(before: usize, a: Registers, b: Registers) -> usize {
-    let first = [
-        a.lines,
-        a.frames,
-        a.pages,
-        a.cmf,
-        a.omf,
-        a.tag,
-        a.first,
-        a.used,
-    ];
-    let second = [
-        b.lines,
-        b.frames,
-        b.pages,
-        b.cmf,
-        b.omf,
-        b.tag,
-        b.first,
-        b.used,
-    ];
-    words_apart(before, &first, &second)
+// Bits, and those in which the registers of two states differ: 0 where all is the same.
+fn registers_apart(before: u32, a: Registers, b: Registers) -> u32 {
+    let sizes = before | (a.lines ^ b.lines) | (a.frames ^ b.frames) | (a.pages ^ b.pages);
+    let marks = (a.cmf ^ b.cmf) | (a.omf ^ b.omf) | (a.tag ^ b.tag);
+    sizes | marks | (a.first ^ b.first) | (a.used ^ b.used)
 }
 
-// A count, and in how many places two states differ.
-fn states_apart(before: usize, a: State, b: State) -> usize {
+// The same of their caches, whose arrays have 16, 32 and 512 places.
+fn caches_apart(before: u32, a: State, b: State) -> u32 {
     let first = a.cache;
-    let held = first.held;
-    let origins = first.origins;
-    let valid = first.valid;
-    let bytes = first.bytes;
-    let last = first.last;
     let second = b.cache;
-    let other_held = second.held;
-    let other_origins = second.origins;
-    let other_valid = second.valid;
-    let other_bytes = second.bytes;
-    let other_last = second.last;
-    caches_apart(
-        registers_apart(before, a.registers, b.registers),
-        &held,
-        &origins,
-        &valid,
-        &bytes,
-        &last,
-        &other_held,
-        &other_origins,
-        &other_valid,
-        &other_bytes,
-        &other_last,
-    )
+    let mut words = before;
+    let mut halves: u16 = 0;
+    let mut bytes: u8 = 0;
+    for i in 0..512usize {
+        let entry = i % 32;
+        words = words | (first.held[entry] ^ second.held[entry]);
+        halves = halves | (first.origins[entry] ^ second.origins[entry]);
+        bytes = bytes | (first.valid[entry] ^ second.valid[entry]);
+        bytes = bytes | (first.last[i % 16] ^ second.last[i % 16]);
+        bytes = bytes | (first.bytes[i] ^ second.bytes[i]);
+    }
+    pieces::bits(words, halves, bytes)
 }
 
 // How many items are sent singly: none of a block that was refused.
@@ -76,13 +42,8 @@ fn sent(refusal: u32, items: &[u32]) -> usize {
     items.len() / 3
 }
 
-// The state after items sent singly, and how many were answered otherwise than in the block.
-struct Single {
-    state: State,
-    apart: usize,
-}
-
-// The items one after the other, each a WRITE of its own; none of a block that got this refusal.
+// The items one after the other, each a WRITE of its own: what they leave, how many were accepted, and how many got another answer than in
+// the block that got this refusal.
 fn singly(
     state: State,
     archive: &[u8],
@@ -94,12 +55,12 @@ fn singly(
     items: &[u32],
     refusal: u32,
     answers: [u32; 256],
-) -> Single {
+) -> Told {
     let count = sent(refusal, items);
     let mut after = state;
-    let mut apart = 0;
+    let mut answer = said(refusal, 0, 0, 0);
     for i in 0..count {
-        let item = item_at(items, i);
+        let item = item_at(items, count, i);
         let made = store::write(
             after,
             archive,
@@ -113,21 +74,26 @@ fn singly(
             item.c,
         );
         after = made.state;
-        apart = place_apart(apart, answers, i, made.refusal);
+        answer = copies::answered(answer, made.refusal as usize, answers, i, 1);
     }
-    Single {
+    Told {
         state: after,
-        apart,
+        answer,
+        answers,
     }
 }
 
-// What the block answered, with in how many places the answers differ, and in how many state and memory do.
-fn told_of(block: Outcome, single: Single, pieces: usize, answers: [u32; 256]) -> Told {
+// What the block left, with what the single writes answered, and whether state and memory differ.
+fn told_of(block: Outcome, single: Told, memory: u32) -> Told {
     let state = block.state;
-    let apart = states_apart(pieces, state, single.state);
+    let other = single.state;
+    let answers = single.answers;
+    let registers = registers_apart(memory, state.registers, other.registers);
+    let mut answer = single.answer;
+    answer.third = caches_apart(registers, state, other) as usize;
     Told {
         state,
-        answer: said(block.refusal, 0, single.apart, apart),
+        answer,
         answers,
     }
 }
@@ -141,19 +107,15 @@ pub fn call(
     table: &mut [u16],
     owners: &mut [u32],
     history: &[u16],
-    script: &[u8],
-    source: Source,
+    items: &[u32],
     call: Call,
 ) -> Told {
-    let list = items::list(call, script, source);
-    let n = items::numbers(call);
-    let m = items::answers_lent(call);
+    let m = answers_lent(call);
     let mut answers = pieces::unanswered();
-    let mut other_pool = pieces::pool_copy(pool);
-    let mut other_groups = pieces::groups_copy(groups);
-    let mut other_table = pieces::table_copy(table);
-    let mut other_owners = pieces::owners_copy(owners);
-    let items = &list[0..n];
+    let mut other_pool = pieces::bytes_copy(pool);
+    let mut other_groups = pieces::words_copy(groups);
+    let mut other_table = pieces::halves_copy(table);
+    let mut other_owners = pieces::words_copy(owners);
     let block = store::write_block(
         state,
         archive,
@@ -177,7 +139,7 @@ pub fn call(
         block.refusal,
         answers,
     );
-    let apart = pieces_apart(
+    let apart = pieces::pieces_apart(
         pool,
         groups,
         table,
@@ -187,5 +149,5 @@ pub fn call(
         &other_table,
         &other_owners,
     );
-    told_of(block, single, apart, answers)
+    told_of(block, single, apart)
 }

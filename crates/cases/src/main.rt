@@ -13,8 +13,9 @@ use choices::items;
 use choices::rows;
 use choices::rows::Turn;
 use copies::Answer;
-use copies::Answered;
+use copies::Call;
 use copies::Plain;
+use copies::Reply;
 use copies::pieces;
 use libc::STDIN_FILENO;
 use libc::STDOUT_FILENO;
@@ -91,24 +92,35 @@ fn print_end(kind: u32, before: usize, left: usize, answer: Answer, tally: Tally
     io::write_all(STDOUT_FILENO, b"\n");
 }
 
+// A block is counted, and the answers to one of the rows are printed.
+fn block_ended(tally: Tally, run: Run, call: Call, refusal: usize, answers: [u32; 256]) -> Tally {
+    if call.kind != copies::BLOCK {
+        return tally;
+    }
+    if run.left == 0 {
+        tally::print_answers(answers, items::answers_lent(call));
+    }
+    counts::block(tally, refusal, call, answers)
+}
+
 // The call is counted and printed, and the next one comes.
-fn ended(game: Game, turn: Turn, told: Told, both: Answered) -> Game {
+fn ended(game: Game, turn: Turn, told: Told, reply: Reply) -> Game {
     let before = game.state;
     let run = game.run;
     let after = turn.run;
     let asked = turn.asked;
     let call = asked.call;
-    let state = subject::kept(before, call, told);
+    let answer = told.answer;
     let answers = told.answers;
-    if run.left == 0 && call.kind == copies::BLOCK {
-        tally::print_answers(answers, items::answers_lent(call));
-    }
+    let expected = reply.answer;
+    let plain = reply.plain;
+    let state = subject::kept(before, call, told);
     let turned = state.registers.cmf < before.registers.cmf;
     let swept = state.registers.tag == 0;
-    let deed = counts::deed(call.kind, both.expected, turned, swept);
-    let tally = tally::judged(game.tally, call, deed, both.told, both.expected);
-    print_end(call.kind, run.left, after.left, both.told, tally);
-    let plain = both.plain;
+    let deed = counts::deed(call.kind, expected, turned, swept);
+    let counted = block_ended(game.tally, run, call, expected.refusal, answers);
+    let tally = tally::judged(counted, call, deed, answer, expected);
+    print_end(call.kind, run.left, after.left, answer, tally);
     Game {
         state,
         plain,
@@ -133,7 +145,10 @@ fn step(
     let plain = game.plain;
     let turn = next(game.run, script, plain.lines, plain.frames, plain.live);
     let asked = turn.asked;
-    let source = items::source_of(game.run, plain.lines);
+    let call = asked.call;
+    let list = items::list(call, script, game.run, plain.lines);
+    let n = items::numbers(call);
+    let items = &list[0..n];
     let played = subject::call(
         game.state,
         archive,
@@ -142,24 +157,14 @@ fn step(
         table,
         owners,
         history,
-        script,
-        source,
+        items,
         asked,
         plain,
     );
     let told = played.told;
     let answers = told.answers;
-    let both = items::beside(
-        memory,
-        plain,
-        asked.call,
-        script,
-        source,
-        played.lent,
-        answers,
-        told.answer,
-    );
-    ended(game, turn, told, both)
+    let reply = copies::step(memory, plain, call, items, answers, played.lent);
+    ended(game, turn, told, reply)
 }
 
 // All calls of all rows and runs, one after the other, on both stores.
@@ -197,12 +202,11 @@ fn play(
 fn print_all(game: Game) {
     let plain = game.plain;
     let cache = plain.cache;
-    let blocks = plain.blocks;
     let mut tally = game.tally;
     tally.n[30] = plain.highest;
     tally.n[31] = plain.rooms;
     tally.n[32] = cache.conflicts;
-    tally::print(tally, blocks);
+    tally::print(tally);
 }
 
 // Memory for the largest settings, and for the copies. The rows come on standard input.

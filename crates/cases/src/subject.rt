@@ -2,7 +2,6 @@
 use crate::block;
 use choices::asked;
 use choices::asked::Asked;
-use choices::items::Source;
 use copies::Answer;
 use copies::Call;
 use copies::Lengths;
@@ -50,7 +49,7 @@ fn outcome(made: Outcome) -> Told {
     single(made.state, said(made.refusal, 0, 0, 0))
 }
 
-// A call that opens, drops or collects frames, or a RESET.
+// A call that opens, drops or collects frames, or a RESET; no call is unanswered.
 fn turn(
     state: State,
     archive: &mut [u8],
@@ -84,7 +83,7 @@ fn turn(
             call.c,
         );
     }
-    Outcome { state, refusal: 0 }
+    Outcome { state, refusal: 77 }
 }
 
 fn origin_of(origin: Origin) -> usize {
@@ -191,8 +190,7 @@ fn made(
     table: &mut [u16],
     owners: &mut [u32],
     history: &mut [u16],
-    script: &[u8],
-    source: Source,
+    items: &[u32],
     call: Call,
 ) -> Told {
     if is_look(call.kind) {
@@ -207,8 +205,7 @@ fn made(
             table,
             owners,
             history,
-            script,
-            source,
+            items,
             call,
         );
     }
@@ -278,8 +275,7 @@ pub fn call(
     table: &mut [u16],
     owners: &mut [u32],
     history: &mut [u16],
-    script: &[u8],
-    source: Source,
+    items: &[u32],
     asked: Asked,
     plain: Plain,
 ) -> Played {
@@ -307,8 +303,7 @@ pub fn call(
         &mut table[0..t],
         &mut owners[0..o],
         &mut history[0..h],
-        script,
-        source,
+        items,
         call,
     );
     Played { told, lent }

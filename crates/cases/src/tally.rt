@@ -83,20 +83,16 @@ fn print_list(names: &[u8], counts: &[usize]) {
     }
 }
 
-// All that was covered; of blocks, what the plain store saw.
-pub fn print(tally: Tally, blocks: [usize; 16]) {
+// All that was covered.
+pub fn print(tally: Tally) {
     let n = tally.n;
     print_list(
         b"accepted     from cache   from frame   from archive refused 4    refused 5    refused 6    refused 7    \
         refused 8    refused 9    refused 10   refused 11   refused 12   refused 13   refused 14   reset        \
         write        read         line         mark         rollback     advance      counts       check        \
         block        resets done  sweeps       turns        CHECK yes    differences  most live    room again   \
-        conflicts    ",
+        conflicts    items        items done   items got 7  items got 8  items got 9  items got 10 items got 13 \
+        behind a 13  empty blocks equal lists  longer lists 5 before 14  6 before 14  ",
         &n,
-    );
-    print_list(
-        b"items        items done   items got 7  items got 8  items got 9  items got 10 items got 13 behind a 13  \
-        empty blocks equal lists  longer lists 5 before 14  6 before 14  ",
-        &blocks,
     );
 }

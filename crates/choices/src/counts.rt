@@ -1,10 +1,12 @@
 // What was covered: calls by kind and answer, and differences.
 use copies::Answer;
+use copies::Call;
 use std::num::wrapping_add_usize;
 
-// Answers by refusal, 0 for accepted; origins in the places 1 to 3; calls by kind from 15 on; and what is named below.
+// Answers by refusal, 0 for accepted; origins in the places 1 to 3; calls by kind from 15 on; the answers to the items of
+// accepted blocks from 34 on; what is named below; and by their refusals, 44 and 45, blocks that got 5 and 6 with too few answers.
 pub struct Tally {
-    pub n: [usize; 40],
+    pub n: [usize; 48],
 }
 
 const RESETS: usize = 25;
@@ -17,18 +19,30 @@ const YES: usize = 28;
 
 const DIFFERENCES: usize = 29;
 
+const ITEMS: usize = 33;
+
+// Items accepted behind one that got 13.
+const BEHIND: usize = 40;
+
+// Accepted blocks of no items, with as many answers as items, with more.
+const EMPTY: usize = 41;
+
+const EQUAL: usize = 42;
+
+const LONGER: usize = 43;
+
 // Not printed.
-const OTHER: usize = 39;
+const OTHER: usize = 47;
 
 pub fn empty() -> Tally {
-    let n = [0usize; 40];
+    let n = [0usize; 48];
     Tally { n }
 }
 
 fn count(tally: Tally, at: usize) -> Tally {
     let mut after = tally;
-    let n = after.n[at % 40];
-    after.n[at % 40] = wrapping_add_usize(n, 1);
+    let n = after.n[at % 48];
+    after.n[at % 48] = wrapping_add_usize(n, 1);
     after
 }
 
@@ -79,4 +93,50 @@ pub fn judged(tally: Tally, kind: u32, deed: usize, store: Answer, plain: Answer
         return after;
     }
     count(after, DIFFERENCES)
+}
+
+// Where an item is counted by its answer.
+fn place(answer: u32) -> usize {
+    match answer {
+        0 => 34,
+        7 => 35,
+        8 => 36,
+        9 => 37,
+        10 => 38,
+        13 => 39,
+        _ => OTHER,
+    }
+}
+
+// The items of an accepted block are counted by their answers.
+fn items(tally: Tally, answers: [u32; 256], items: usize) -> Tally {
+    let mut after = tally;
+    let mut behind = OTHER;
+    for i in 0..items {
+        if i < 256 {
+            let answer = answers[i];
+            after = count(count(after, ITEMS), place(answer));
+            if answer == 0 {
+                after = count(after, behind);
+            }
+            if answer == 13 {
+                behind = BEHIND;
+            }
+        }
+    }
+    after
+}
+
+// A block is counted by its refusal, and how many items and answers it has.
+pub fn block(tally: Tally, refusal: usize, call: Call, answers: [u32; 256]) -> Tally {
+    if refusal != 0 {
+        return count(
+            tally,
+            only(call.b < call.a && refusal != 14, 39 + refusal % 8),
+        );
+    }
+    let mut after = count(tally, only(call.a == 0, EMPTY));
+    after = count(after, only(call.b == call.a, EQUAL));
+    after = count(after, only(call.a < call.b, LONGER));
+    items(after, answers, call.a as usize)
 }

@@ -6,8 +6,7 @@ pub mod pieces;
 mod recent;
 mod refusals;
 
-pub use items::Answered;
-pub use items::beside;
+pub use items::answered;
 pub use items::item_at;
 pub use lengths::Lengths;
 pub use lengths::least;
@@ -38,12 +37,15 @@ pub const CHECK: u32 = 8;
 
 pub const BLOCK: u32 = 9;
 
+// No call, as is every kind above BLOCK.
+pub const NONE: u32 = 10;
+
 // Origins that are no count of marks back.
 pub const CACHE: usize = 1000;
 
 pub const ARCHIVE: usize = 1001;
 
-// A call, on the store's state or on the blank one. Kinds above BLOCK are no calls.
+// A call, on the store's state or on the blank one.
 pub struct Call {
     pub kind: u32,
     // RESET: L, F, P; WRITE: width, address, value; READ: width, address; LINE: number; ROLLBACK, ADVANCE: k; BLOCK: how many items and answers,
@@ -71,7 +73,7 @@ pub fn is_same(a: Answer, b: Answer) -> bool {
 }
 
 // The settings, how many frames are live, and the cache; and what was seen: whether 13 was given since the last page was given out, how
-// often a page was given out after that, the most live frames, and of blocks what `items` names.
+// often a page was given out after that, and the most live frames.
 pub struct Plain {
     pub lines: usize,
     pub frames: usize,
@@ -80,7 +82,6 @@ pub struct Plain {
     pub full: bool,
     pub rooms: usize,
     pub highest: usize,
-    pub blocks: [usize; 16],
     pub cache: Cache,
 }
 
@@ -92,7 +93,6 @@ pub struct Reply {
 
 // No store: L is 0.
 pub fn blank() -> Plain {
-    let blocks = [0usize; 16];
     Plain {
         lines: 0,
         frames: 0,
@@ -101,7 +101,6 @@ pub fn blank() -> Plain {
         full: false,
         rooms: 0,
         highest: 0,
-        blocks,
         cache: recent::empty(0),
     }
 }
@@ -111,7 +110,6 @@ fn reset(memory: &mut [u32], plain: Plain, call: Call) -> Plain {
     let lines = call.a as usize;
     memory::clear(memory, wrapping_add_usize(size(lines), size(lines)));
     let cache = plain.cache;
-    let blocks = plain.blocks;
     Plain {
         lines,
         frames: call.b as usize,
@@ -120,7 +118,6 @@ fn reset(memory: &mut [u32], plain: Plain, call: Call) -> Plain {
         full: false,
         rooms: plain.rooms,
         highest: plain.highest,
-        blocks,
         cache: recent::empty(cache.conflicts),
     }
 }
@@ -276,8 +273,8 @@ fn refused(plain: Plain, kind: u32, refusal: usize) -> Reply {
     }
 }
 
-// A call on the plain store, where pieces of these lengths are lent.
-fn step(memory: &mut [u32], plain: Plain, call: Call, lent: Lengths) -> Reply {
+// A call but BLOCK on the plain store, where pieces of these lengths are lent.
+fn single(memory: &mut [u32], plain: Plain, call: Call, lent: Lengths) -> Reply {
     let refusal = refusals::refusal(memory, plain, call, lent);
     if refusal != 0 {
         return refused(plain, call.kind, refusal);
@@ -288,4 +285,24 @@ fn step(memory: &mut [u32], plain: Plain, call: Call, lent: Lengths) -> Reply {
         plain: after,
         answer,
     }
+}
+
+// A call on the plain store, beside the answers that the store gave to the items of a block. Refused as a whole it has none that are tried.
+pub fn step(
+    memory: &mut [u32],
+    plain: Plain,
+    call: Call,
+    items: &[u32],
+    answers: [u32; 256],
+    lent: Lengths,
+) -> Reply {
+    let reply = single(memory, plain, call, lent);
+    if call.kind != BLOCK {
+        return reply;
+    }
+    let mut count = 0;
+    if reply.answer.refusal == 0 {
+        count = call.a as usize;
+    }
+    items::tried(memory, reply, items, answers, count, lent)
 }

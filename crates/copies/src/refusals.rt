@@ -1,5 +1,6 @@
 // Why the plain store turns a call down: the first reason in the document's order.
 use crate::ADVANCE;
+use crate::BLOCK;
 use crate::Call;
 use crate::LINE;
 use crate::Lengths;
@@ -11,6 +12,7 @@ use crate::ROLLBACK;
 use crate::WRITE;
 use crate::lengths;
 use crate::memory;
+use crate::pieces::UNANSWERED;
 use std::num::wrapping_add_usize;
 
 // A refusal where a test holds.
@@ -96,15 +98,6 @@ fn of_store(plain: Plain, blank: bool, lent: Lengths) -> usize {
     of_lengths(plain.lines, plain.frames, plain.pages, lent)
 }
 
-// 5, 6, 14: the answers are fewer than the items.
-pub fn of_block(plain: Plain, blank: bool, lent: Lengths, items: usize, answers: usize) -> usize {
-    let first = of_store(plain, blank, lent);
-    if first != 0 {
-        return first;
-    }
-    only(answers < items, 14)
-}
-
 // 11: k is 0 or more than the live frames but one.
 fn of_frames(live: usize, k: usize) -> usize {
     if k == 0 || k >= live {
@@ -113,7 +106,7 @@ fn of_frames(live: usize, k: usize) -> usize {
     0
 }
 
-// 7 to 13
+// 7 to 14
 fn of_call(memory: &[u32], plain: Plain, call: Call) -> usize {
     let a = call.a as usize;
     let b = call.b as usize;
@@ -124,17 +117,18 @@ fn of_call(memory: &[u32], plain: Plain, call: Call) -> usize {
         LINE => only(a >= plain.lines, 9),
         MARK => only(plain.live == plain.frames, 12),
         ROLLBACK | ADVANCE => of_frames(plain.live, a),
+        BLOCK => only(b < a, 14),
         _ => 0,
     }
 }
 
-// The refusal of a call, or 0.
+// The refusal of a call, or 0; no call is unanswered.
 pub fn refusal(memory: &[u32], plain: Plain, call: Call, lent: Lengths) -> usize {
     if call.kind == RESET {
         return of_reset(call.a as usize, call.b as usize, call.c as usize, lent);
     }
-    if call.kind > crate::CHECK {
-        return 0;
+    if call.kind > BLOCK {
+        return UNANSWERED;
     }
     let first = of_store(plain, call.blank, lent);
     if first != 0 {

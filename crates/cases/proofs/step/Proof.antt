@@ -1,18 +1,31 @@
 -- `cases::step` is safe and ends: no list changes its length. Assumes nothing.
+use borrow.Author.Needs.{needs}
 use Rattle.cases.proofs.step.Statement.{statement}
 use Rattle.cases.proofs.step.Tie as tie
 
 next-requires : tie.Need-next-requires
 next-requires c κs = tt
 
-source-of-requires : tie.Need-source-of-requires
-source-of-requires c κs = tt
+list-requires : tie.Need-list-requires
+list-requires c κs = tt
+
+numbers-requires : tie.Need-numbers-requires
+numbers-requires c κs = tt
+
+sub-items : tie.Need-sub-items
+sub-items c = search needs
+
+part-items-start : tie.Need-part-items-start
+part-items-start c = search needs
+
+part-items-end : tie.Need-part-items-end
+part-items-end c = search needs
 
 call-requires : tie.Need-call-requires
 call-requires c κs = tt
 
-beside-requires : tie.Need-beside-requires
-beside-requires c κs = tt
+step-requires : tie.Need-step-requires
+step-requires c κs = tt
 
 ended-requires : tie.Need-ended-requires
 ended-requires c κs = tt
@@ -50,9 +63,13 @@ step-spec =
     tie.close
     (tie.spec
     next-requires
-    source-of-requires
+    list-requires
+    numbers-requires
+    sub-items
+    part-items-start
+    part-items-end
     call-requires
-    beside-requires
+    step-requires
     ended-requires
     same-length
     same-length-2

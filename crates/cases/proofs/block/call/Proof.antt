@@ -4,38 +4,23 @@ use mathlib.Core.Path.{sym}
 use Rattle.cases.proofs.block.call.Statement.{statement}
 use Rattle.cases.proofs.block.call.Tie as tie
 
-list-requires : tie.Need-list-requires
-list-requires c κs = tt
-
-numbers-requires : tie.Need-numbers-requires
-numbers-requires c κs = tt
-
 answers-lent-requires : tie.Need-answers-lent-requires
 answers-lent-requires c κs = tt
 
 unanswered-requires : tie.Need-unanswered-requires
 unanswered-requires c κs = tt
 
-pool-copy-requires : tie.Need-pool-copy-requires
-pool-copy-requires c κs = tt
+bytes-copy-requires : tie.Need-bytes-copy-requires
+bytes-copy-requires c κs = tt
 
-groups-copy-requires : tie.Need-groups-copy-requires
-groups-copy-requires c κs = tt
+words-copy-requires : tie.Need-words-copy-requires
+words-copy-requires c κs = tt
 
-table-copy-requires : tie.Need-table-copy-requires
-table-copy-requires c κs = tt
+halves-copy-requires : tie.Need-halves-copy-requires
+halves-copy-requires c κs = tt
 
-owners-copy-requires : tie.Need-owners-copy-requires
-owners-copy-requires c κs = tt
-
-sub-items : tie.Need-sub-items
-sub-items c = search needs
-
-part-items-start : tie.Need-part-items-start
-part-items-start c = search needs
-
-part-items-end : tie.Need-part-items-end
-part-items-end c = search needs
+words-copy-requires-2 : tie.Need-words-copy-requires-2
+words-copy-requires-2 c κs = tt
 
 sub-write-block : tie.Need-sub-write-block
 sub-write-block c = search needs
@@ -50,20 +35,20 @@ write-block-requires : tie.Need-write-block-requires
 write-block-requires c κs = tt
 
 -- The copies, whose lengths their functions promise.
-abbrev copied : tie.After-other-pool → tie.After-owners-copy
-copied c = let m = c .before .before .before .before .before .before .before .before .before in m .before .before .before .before .before .before .before .before .before
+abbrev copied : tie.After-other-pool → tie.After-words-copy2
+copied c = let m = c .before .before .before .before .before .before .before .before .before in m .before .before .before .before .before .before .before
 
 slice-aggregate-singly : tie.Need-slice-aggregate-singly
-slice-aggregate-singly c = copied c .before .before .before .before .before .before .pool-copy .ensures
+slice-aggregate-singly c = copied c .before .before .before .before .before .before .bytes-copy .ensures
 
 slice-aggregate-singly-2 : tie.Need-slice-aggregate-singly-2
-slice-aggregate-singly-2 c = copied (c .before) .before .before .before .before .groups-copy .ensures
+slice-aggregate-singly-2 c = copied (c .before) .before .before .before .before .words-copy .ensures
 
 slice-aggregate-singly-3 : tie.Need-slice-aggregate-singly-3
-slice-aggregate-singly-3 c = copied (c .before .before) .before .before .table-copy .ensures
+slice-aggregate-singly-3 c = copied (c .before .before) .before .before .halves-copy .ensures
 
 slice-aggregate-singly-4 : tie.Need-slice-aggregate-singly-4
-slice-aggregate-singly-4 c = copied (c .before .before .before) .owners-copy .ensures
+slice-aggregate-singly-4 c = copied (c .before .before .before) .words-copy2 .ensures
 
 singly-requires : tie.Need-singly-requires
 singly-requires c κs = tt
@@ -109,17 +94,12 @@ pub call-spec : {M : Type 1} → statement M
 call-spec =
     tie.close
     (tie.spec
-    list-requires
-    numbers-requires
     answers-lent-requires
     unanswered-requires
-    pool-copy-requires
-    groups-copy-requires
-    table-copy-requires
-    owners-copy-requires
-    sub-items
-    part-items-start
-    part-items-end
+    bytes-copy-requires
+    words-copy-requires
+    halves-copy-requires
+    words-copy-requires-2
     sub-write-block
     part-answers-start
     part-answers-end

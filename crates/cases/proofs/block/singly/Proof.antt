@@ -1,19 +1,23 @@
--- `cases::singly` is safe and ends. Assumes nothing.
+-- `cases::block::singly` is safe and ends. Assumes nothing.
 use borrow.Author.Needs.{needs}
-use mathlib.Core.Path.{_≡_}
+use mathlib.Core.Path.{_≡_, _∙_}
+use native.Mathlib.Omega.{arith}
 use Prim.Native.Nat.{_-_, _<_}
 use lib.ListN.{length}
 use Rattle.cases.proofs.block.singly.Statement.{statement}
 use Rattle.cases.proofs.block.singly.Tie as tie
 
 abbrev Inv-loop : tie.InvT-loop
-Inv-loop archive pool₀ groups₀ table₀ owners₀ history items refusal answers count after₀ apart₀ i₀ pool groups table owners after apart i = (length pool ≡ length pool₀) × (length groups ≡ length groups₀) × (length table ≡ length table₀) × (length owners ≡ length owners₀) × (count < 18446744073709551616)
+Inv-loop archive pool₀ groups₀ table₀ owners₀ history items refusal answers count after₀ answer₀ i₀ pool groups table owners after answer i = (length pool ≡ length pool₀) × (length groups ≡ length groups₀) × (length table ≡ length table₀) × (length owners ≡ length owners₀) × (count < 18446744073709551616)
 
 abbrev μ-loop : tie.MeasureT-loop
-μ-loop archive pool₀ groups₀ table₀ owners₀ history items refusal answers count after₀ apart₀ i₀ pool groups table owners after apart i = count - i
+μ-loop archive pool₀ groups₀ table₀ owners₀ history items refusal answers count after₀ answer₀ i₀ pool groups table owners after answer i = count - i
 
 sent-requires : tie.Need-sent-requires Inv-loop μ-loop
 sent-requires c κs = tt
+
+said-requires : tie.Need-said-requires Inv-loop μ-loop
+said-requires c κs = tt
 
 loop-holds : tie.Need-loop-holds Inv-loop μ-loop
 loop-holds c = search needs
@@ -24,17 +28,26 @@ item-at-requires c κs = tt
 write-requires : tie.Need-write-requires Inv-loop μ-loop
 write-requires c κs = tt
 
-place-apart-requires : tie.Need-place-apart-requires Inv-loop μ-loop
-place-apart-requires c κs = tt
+cast-answered : tie.Need-cast-answered Inv-loop μ-loop
+cast-answered c = search needs
+
+answered-requires : tie.Need-answered-requires Inv-loop μ-loop
+answered-requires c κs = tt
 
 add-i : tie.Need-add-i Inv-loop μ-loop
-add-i c = search needs
+add-i c = omega (arith, c .before .before .before .before .before .before .before .before .before .before .before .before .before .before .before .before .before .loop-test .taken, c .before .before .before .before .before .before .before .before .before .before .before .before .before .before .before .before .before .before .loop .inv .4)
 
 loop-less : tie.Need-loop-less Inv-loop μ-loop
 loop-less c = search needs
 
 loop-again : tie.Need-loop-again Inv-loop μ-loop
-loop-again c = search needs
+loop-again c = (
+  c .before .before .before .before .before .before .before .before .before .before .pool .given ∙ c .before .before .before .before .before .before .before .before .before .before .before .before .before .before .before .before .before .before .loop .inv .0,
+  c .before .before .before .before .before .before .before .before .groups .given ∙ c .before .before .before .before .before .before .before .before .before .before .before .before .before .before .before .before .before .before .loop .inv .1,
+  c .before .before .before .before .before .before .table .given ∙ c .before .before .before .before .before .before .before .before .before .before .before .before .before .before .before .before .before .before .loop .inv .2,
+  c .before .before .before .before .owners .given ∙ c .before .before .before .before .before .before .before .before .before .before .before .before .before .before .before .before .before .before .loop .inv .3,
+  c .before .before .before .before .before .before .before .before .before .before .before .before .before .before .before .before .before .before .loop .inv .4,
+)
 
 same-length : tie.Need-same-length Inv-loop μ-loop
 same-length c = search needs
@@ -58,10 +71,12 @@ singly-spec =
     Inv-loop
     μ-loop
     sent-requires
+    said-requires
     loop-holds
     item-at-requires
     write-requires
-    place-apart-requires
+    cast-answered
+    answered-requires
     add-i
     loop-less
     loop-again

@@ -1,16 +1,16 @@
--- `copies::tried` is safe and ends. Assumes nothing.
+-- `copies::items::tried` is safe and ends. Assumes nothing.
 use borrow.Author.Needs.{needs}
 use mathlib.Core.Path.{_≡_}
-use Prim.Native.Nat.{_-_, _<_}
+use Prim.Native.Nat.{_-_, _≤_}
 use lib.ListN.{length}
 use Rattle.copies.proofs.items.tried.Statement.{statement}
 use Rattle.copies.proofs.items.tried.Tie as tie
 
 abbrev Inv-loop : tie.InvT-loop
-Inv-loop memory₀ items answers₀ lent count after₀ full₀ i₀ memory answers after full i = (length memory ≡ length memory₀) × (length answers ≡ length answers₀) × (count < 18446744073709551615)
+Inv-loop memory₀ items answers count lent plain₀ answer₀ i₀ memory plain answer i = (length memory ≡ length memory₀) × (i ≤ 256)
 
 abbrev μ-loop : tie.MeasureT-loop
-μ-loop memory₀ items answers₀ lent count after₀ full₀ i₀ memory answers after full i = count - i
+μ-loop memory₀ items answers count lent plain₀ answer₀ i₀ memory plain answer i = 256 - i
 
 loop-holds : tie.Need-loop-holds Inv-loop μ-loop
 loop-holds c = search needs
@@ -18,14 +18,11 @@ loop-holds c = search needs
 item-at-requires : tie.Need-item-at-requires Inv-loop μ-loop
 item-at-requires c κs = tt
 
-step-requires : tie.Need-step-requires Inv-loop μ-loop
-step-requires c κs = tt
+single-requires : tie.Need-single-requires Inv-loop μ-loop
+single-requires c κs = tt
 
-put-requires : tie.Need-put-requires Inv-loop μ-loop
-put-requires c κs = tt
-
-counted-requires : tie.Need-counted-requires Inv-loop μ-loop
-counted-requires c κs = tt
+answered-requires : tie.Need-answered-requires Inv-loop μ-loop
+answered-requires c κs = tt
 
 add-i : tie.Need-add-i Inv-loop μ-loop
 add-i c = search needs
@@ -39,9 +36,6 @@ loop-again c = search needs
 same-length : tie.Need-same-length Inv-loop μ-loop
 same-length c = search needs
 
-same-length-2 : tie.Need-same-length-2 Inv-loop μ-loop
-same-length-2 c = search needs
-
 returns : tie.Need-returns Inv-loop μ-loop
 returns c = search needs
 
@@ -53,12 +47,10 @@ tried-spec =
     μ-loop
     loop-holds
     item-at-requires
-    step-requires
-    put-requires
-    counted-requires
+    single-requires
+    answered-requires
     add-i
     loop-less
     loop-again
     same-length
-    same-length-2
     returns)

@@ -1,16 +1,19 @@
--- `copies::copy_bytes` is safe and ends. Assumes nothing.
+-- `copies::pieces::bytes_copy` is safe and ends. Assumes nothing.
 use borrow.Author.Needs.{needs}
 use mathlib.Core.Path.{_≡_}
 use Prim.Native.Nat.{_-_}
 use lib.ListN.{length}
-use Rattle.copies.proofs.pieces.copy_bytes.Statement.{statement}
-use Rattle.copies.proofs.pieces.copy_bytes.Tie as tie
+use Rattle.copies.proofs.pieces.bytes_copy.Statement.{statement}
+use Rattle.copies.proofs.pieces.bytes_copy.Tie as tie
 
 abbrev Inv-loop : tie.InvT-loop
-Inv-loop to₀ from i₀ i-end to i = (length to ≡ length to₀)
+Inv-loop list to₀ i₀ i-end to i = (length to ≡ 524288)
 
 abbrev μ-loop : tie.MeasureT-loop
-μ-loop to₀ from i₀ i-end to i = i-end - i
+μ-loop list to₀ i₀ i-end to i = i-end - i
+
+pool-room-requires : tie.Need-pool-room-requires Inv-loop μ-loop
+pool-room-requires c κs = tt
 
 returns : tie.Need-returns Inv-loop μ-loop
 returns c = search needs
@@ -21,8 +24,8 @@ loop-holds c = search needs
 shared-slice-read-to : tie.Need-shared-slice-read-to Inv-loop μ-loop
 shared-slice-read-to c = search needs
 
-slice-write-to : tie.Need-slice-write-to Inv-loop μ-loop
-slice-write-to c = search needs
+array-write-to : tie.Need-array-write-to Inv-loop μ-loop
+array-write-to c = search needs
 
 add-i : tie.Need-add-i Inv-loop μ-loop
 add-i c = search needs
@@ -33,24 +36,21 @@ loop-less c = search needs
 loop-again : tie.Need-loop-again Inv-loop μ-loop
 loop-again c = search needs
 
-same-length : tie.Need-same-length Inv-loop μ-loop
-same-length c = search needs
-
 returns-2 : tie.Need-returns-2 Inv-loop μ-loop
 returns-2 c = search needs
 
-pub copy-bytes-spec : {M : Type 1} → statement M
-copy-bytes-spec =
+pub bytes-copy-spec : {M : Type 1} → statement M
+bytes-copy-spec =
     tie.close
     (tie.spec
     Inv-loop
     μ-loop
+    pool-room-requires
     returns
     loop-holds
     shared-slice-read-to
-    slice-write-to
+    array-write-to
     add-i
     loop-less
     loop-again
-    same-length
     returns-2)

@@ -13,6 +13,16 @@ Inv-loop archive pool₀ groups₀ table₀ owners₀ history items refusal answ
 abbrev μ-loop : tie.MeasureT-loop
 μ-loop archive pool₀ groups₀ table₀ owners₀ history items refusal answers count after₀ answer₀ i₀ pool groups table owners after answer i = count - i
 
+-- the places of a turn, each from a later one
+abbrev owners-at : tie.After-answered Inv-loop μ-loop → tie.After-owners Inv-loop μ-loop
+owners-at c = c .before .before .before .before
+
+abbrev pool-at : tie.After-owners Inv-loop μ-loop → tie.After-pool Inv-loop μ-loop
+pool-at o = o .before .before .before .before .before .before
+
+abbrev item-at : tie.After-pool Inv-loop μ-loop → tie.After-item-at Inv-loop μ-loop
+item-at p = p .before .before .before .before .before .before
+
 sent-requires : tie.Need-sent-requires Inv-loop μ-loop
 sent-requires c κs = tt
 
@@ -35,19 +45,22 @@ answered-requires : tie.Need-answered-requires Inv-loop μ-loop
 answered-requires c κs = tt
 
 add-i : tie.Need-add-i Inv-loop μ-loop
-add-i c = omega (arith, c .before .before .before .before .before .before .before .before .before .before .before .before .before .before .before .before .before .loop-test .taken, c .before .before .before .before .before .before .before .before .before .before .before .before .before .before .before .before .before .before .loop .inv .4)
+add-i c = let t = item-at (pool-at (owners-at c)) .before in omega (arith, t .loop-test .taken, t .before .loop .inv .4)
 
 loop-less : tie.Need-loop-less Inv-loop μ-loop
 loop-less c = search needs
 
 loop-again : tie.Need-loop-again Inv-loop μ-loop
-loop-again c = (
-  c .before .before .before .before .before .before .before .before .before .before .pool .given ∙ c .before .before .before .before .before .before .before .before .before .before .before .before .before .before .before .before .before .before .loop .inv .0,
-  c .before .before .before .before .before .before .before .before .groups .given ∙ c .before .before .before .before .before .before .before .before .before .before .before .before .before .before .before .before .before .before .loop .inv .1,
-  c .before .before .before .before .before .before .table .given ∙ c .before .before .before .before .before .before .before .before .before .before .before .before .before .before .before .before .before .before .loop .inv .2,
-  c .before .before .before .before .owners .given ∙ c .before .before .before .before .before .before .before .before .before .before .before .before .before .before .before .before .before .before .loop .inv .3,
-  c .before .before .before .before .before .before .before .before .before .before .before .before .before .before .before .before .before .before .loop .inv .4,
-)
+loop-again c =
+    let o = owners-at c in
+    let p = pool-at o in
+    let l = item-at p .before .before .loop in (
+      p .pool .given ∙ l .inv .0,
+      o .before .before .before .before .groups .given ∙ l .inv .1,
+      o .before .before .table .given ∙ l .inv .2,
+      o .owners .given ∙ l .inv .3,
+      l .inv .4,
+    )
 
 same-length : tie.Need-same-length Inv-loop μ-loop
 same-length c = search needs

@@ -30,30 +30,27 @@ step-requires c κs = tt
 ended-requires : tie.Need-ended-requires
 ended-requires c κs = tt
 
--- What the call on the store left.
-abbrev behind-call : tie.After-ended → tie.After-history
-behind-call c = c .before .before .before .before .before .before .before .before
-
+-- The call on the store left every list as long as it was, and so did the one on the plain store.
 same-length : tie.Need-same-length
-same-length c = behind-call c .before .before .before .before .before .before .before .before .before .before .archive .given
+same-length c = let t : tie.After-table = search in t .before .before .before .before .before .before .archive .given
 
 same-length-2 : tie.Need-same-length-2
-same-length-2 c = behind-call c .before .before .before .before .before .before .before .before .pool .given
+same-length-2 c = let t : tie.After-table = search in t .before .before .before .before .pool .given
 
 same-length-3 : tie.Need-same-length-3
-same-length-3 c = behind-call c .before .before .before .before .before .before .groups .given
+same-length-3 c = let t : tie.After-table = search in t .before .before .groups .given
 
 same-length-4 : tie.Need-same-length-4
-same-length-4 c = behind-call c .before .before .before .before .table .given
+same-length-4 c = let p : tie.After-table = search in p .table .given
 
 same-length-5 : tie.Need-same-length-5
-same-length-5 c = behind-call c .before .before .owners .given
+same-length-5 c = let p : tie.After-owners = search in p .owners .given
 
 same-length-6 : tie.Need-same-length-6
-same-length-6 c = behind-call c .history .given
+same-length-6 c = let p : tie.After-history = search in p .history .given
 
 same-length-7 : tie.Need-same-length-7
-same-length-7 c = c .before .before .memory .given
+same-length-7 c = let p : tie.After-memory = search in p .memory .given
 
 returns : tie.Need-returns
 returns c = tt

@@ -34,36 +34,33 @@ part-answers-end c = search needs
 write-block-requires : tie.Need-write-block-requires
 write-block-requires c κs = tt
 
--- The copies, whose lengths their functions promise.
-abbrev copied : tie.After-other-pool → tie.After-words-copy2
-copied c = let m = c .before .before .before .before .before .before .before .before .before in m .before .before .before .before .before .before .before
-
+-- The copies have the lengths that their functions promise.
 slice-aggregate-singly : tie.Need-slice-aggregate-singly
-slice-aggregate-singly c = copied c .before .before .before .before .before .before .bytes-copy .ensures
+slice-aggregate-singly c = let p : tie.After-bytes-copy = search in p .bytes-copy .ensures
 
 slice-aggregate-singly-2 : tie.Need-slice-aggregate-singly-2
-slice-aggregate-singly-2 c = copied (c .before) .before .before .before .before .words-copy .ensures
+slice-aggregate-singly-2 c = let p : tie.After-words-copy = search in p .words-copy .ensures
 
 slice-aggregate-singly-3 : tie.Need-slice-aggregate-singly-3
-slice-aggregate-singly-3 c = copied (c .before .before) .before .before .halves-copy .ensures
+slice-aggregate-singly-3 c = let p : tie.After-halves-copy = search in p .halves-copy .ensures
 
 slice-aggregate-singly-4 : tie.Need-slice-aggregate-singly-4
-slice-aggregate-singly-4 c = copied (c .before .before .before) .words-copy2 .ensures
+slice-aggregate-singly-4 c = let p : tie.After-words-copy2 = search in p .words-copy2 .ensures
 
 singly-requires : tie.Need-singly-requires
 singly-requires c κs = tt
 
 slice-aggregate-pieces-apart : tie.Need-slice-aggregate-pieces-apart
-slice-aggregate-pieces-apart c = sym (c .before .before .before .before .before .before .before .before .other-pool2 .given)
+slice-aggregate-pieces-apart c = let p : tie.After-other-pool2 = search in sym (p .other-pool2 .given)
 
 slice-aggregate-pieces-apart-2 : tie.Need-slice-aggregate-pieces-apart-2
-slice-aggregate-pieces-apart-2 c = sym (c .before .before .before .before .before .before .before .before .other-groups2 .given)
+slice-aggregate-pieces-apart-2 c = let p : tie.After-other-groups2 = search in sym (p .other-groups2 .given)
 
 slice-aggregate-pieces-apart-3 : tie.Need-slice-aggregate-pieces-apart-3
-slice-aggregate-pieces-apart-3 c = sym (c .before .before .before .before .before .before .before .before .other-table2 .given)
+slice-aggregate-pieces-apart-3 c = let p : tie.After-other-table2 = search in sym (p .other-table2 .given)
 
 slice-aggregate-pieces-apart-4 : tie.Need-slice-aggregate-pieces-apart-4
-slice-aggregate-pieces-apart-4 c = sym (c .before .before .before .before .before .before .before .before .other-owners2 .given)
+slice-aggregate-pieces-apart-4 c = let p : tie.After-other-owners2 = search in sym (p .other-owners2 .given)
 
 pieces-apart-requires : tie.Need-pieces-apart-requires
 pieces-apart-requires c κs = tt
@@ -71,21 +68,24 @@ pieces-apart-requires c κs = tt
 told-of-requires : tie.Need-told-of-requires
 told-of-requires c κs = tt
 
--- What the block left.
-abbrev behind-block : tie.After-told-of → tie.After-owners
-behind-block c = let m = c .before .before .before .before .before .before .before .before .before .before in m .before .before .before .before .before .before .before .before .before .before .before
+-- The block left every list as long as it was: its places, each from a later one.
+abbrev owners-at : tie.After-other-owners → tie.After-owners
+owners-at o = o .before .before .before .before .before .before
+
+abbrev groups-at : tie.After-owners → tie.After-groups
+groups-at o = o .before .before .before .before
 
 same-length : tie.Need-same-length
-same-length c = behind-block c .before .before .before .before .before .before .pool .given
+same-length c = let o : tie.After-other-owners = search in groups-at (owners-at o) .before .before .pool .given
 
 same-length-2 : tie.Need-same-length-2
-same-length-2 c = behind-block c .before .before .before .before .groups .given
+same-length-2 c = let o : tie.After-other-owners = search in groups-at (owners-at o) .groups .given
 
 same-length-3 : tie.Need-same-length-3
-same-length-3 c = behind-block c .before .before .table .given
+same-length-3 c = let o : tie.After-other-owners = search in owners-at o .before .before .table .given
 
 same-length-4 : tie.Need-same-length-4
-same-length-4 c = behind-block c .owners .given
+same-length-4 c = let o : tie.After-other-owners = search in owners-at o .owners .given
 
 returns : tie.Need-returns
 returns c = tt

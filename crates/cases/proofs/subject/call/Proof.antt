@@ -69,22 +69,22 @@ made-requires : tie.Need-made-requires
 made-requires c κs = tt
 
 same-length : tie.Need-same-length
-same-length c = c .before .before .before .before .before .before .before .before .before .before .before .archive .given .1
+same-length c = let p : tie.After-archive = search in p .archive .given .1
 
 same-length-2 : tie.Need-same-length-2
-same-length-2 c = c .before .before .before .before .before .before .before .before .before .pool .given .1
+same-length-2 c = let p : tie.After-pool = search in p .pool .given .1
 
 same-length-3 : tie.Need-same-length-3
-same-length-3 c = c .before .before .before .before .before .before .before .groups .given .1
+same-length-3 c = let p : tie.After-groups = search in p .groups .given .1
 
 same-length-4 : tie.Need-same-length-4
-same-length-4 c = c .before .before .before .before .before .table .given .1
+same-length-4 c = let p : tie.After-table = search in p .table .given .1
 
 same-length-5 : tie.Need-same-length-5
-same-length-5 c = c .before .before .before .owners .given .1
+same-length-5 c = let p : tie.After-owners = search in p .owners .given .1
 
 same-length-6 : tie.Need-same-length-6
-same-length-6 c = c .before .history .given .1
+same-length-6 c = let p : tie.After-history = search in p .history .given .1
 
 returns : tie.Need-returns
 returns c = search needs

@@ -2,8 +2,9 @@
 """The account of rust/account: reads callgrind's counts from a folder and prints where the instructions went.
 
 The folder has fine.out and tight.out (short replays of these lists on ours), ours.out and chip-rust.out (each call by itself), for each of the two PEER
-also PEER-64.out and PEER-4096.out (calls with a full pool of so many pages), block.out (the writes of the list block, in blocks and singly), runner.out (the
-runner on the first lines of the long session), and beside each a .txt with the calls or lines made.
+also PEER-64.out and PEER-4096.out (calls with a full pool of so many pages), PEER-level-2.out, PEER-level-255.out, PEER-falling-2.out and
+PEER-falling-255.out (rollbacks with so many tags in use), block.out (the writes of the list block, in blocks and singly), runner.out (the runner on the
+first lines of the long session), and beside each a .txt with the calls or lines made.
 """
 import re
 import sys
@@ -92,6 +93,10 @@ FULL = {
     "write_again": "WRITE, first after ROLLBACK(1) and MARK",
     "rollback": "ROLLBACK(1) without sweep",
 }
+TAGS = {
+    "level": "MARK and ROLLBACK(1) repeated at one level: two entries are compared",
+    "falling": "the same, then ROLLBACK(1) without a mark between: every entry is compared",
+}
 
 
 def costs(folder, name):
@@ -122,6 +127,17 @@ def full(folder):
         print(f"{' '.join(parts)}  {words}")
 
 
+def tags(folder):
+    print("ROLLBACK(1) without sweep with 2 and with 255 tags in use; more: the second less the first")
+    print(f"{'ours 2':>10} {'255':>10} {'more':>7} {'chip 2':>10} {'255':>10} {'more':>7}  call")
+    for case, words in TAGS.items():
+        parts = []
+        for peer in ("ours", "chip-rust"):
+            few, many = (costs(folder, f"{peer}-{case}-{number}")["rollback"] for number in (2, 255))
+            parts.append(f"{few:10.0f} {many:10.0f} {many - few:7.0f}")
+        print(f"{' '.join(parts)}  {words}")
+
+
 def block(folder):
     cost = costs(folder, "block")
     print("instructions for one write of the list `block`, ours, the same writes in blocks of 64 and singly (L 4096, F 64, P 2048)")
@@ -145,6 +161,8 @@ def main():
     cases(folder)
     print()
     full(folder)
+    print()
+    tags(folder)
     print()
     block(folder)
     print()

@@ -4,6 +4,8 @@ pub mod Blocks
 pub mod Blanks
 pub mod Windows
 pub mod Setting
+pub mod Entering
+pub mod Walks
 pub mod Sweeping
 pub mod Rolling
 pub mod Advancing

@@ -8,25 +8,16 @@ use native.Mathlib.Numerals.{add-one}
 use native.Mathlib.Omega.{arith}
 use borrow.Author.Tests.{eq-eqb, ne-eqb, lt-ltb, le-ltb}
 use lib.Arith.{digits-div}
-use lib.ListN.{length, getD, set}
+use lib.ListN.{length, set}
 use Rattle.lists.specs.Lists.{rewrite, rewriteFrom}
 use Rattle.written.specs.Bits.{Written, writtenOf, AsksWritten, Near, placeOf, boundOf, firstIndex, cutOf, windowOf}
-use Rattle.written.specs.Steps.{maskedOf, Entered, entered, swept, lowerBound, nextTag, RolledBack}
-use Rattle.lists.proofs.Lists.{Rewritten, rewrite-start, rewrite-end, rewrite-length, rewrite-past, rewrite-behind}
+use Rattle.written.specs.Steps.{maskedOf, Entered, swept, lowerBound, nextTag, RolledBack}
+use Rattle.lists.proofs.Lists.{Rewritten, rewrite-start, rewrite-end, rewrite-behind}
 use Rattle.written.proofs.Windows.{cut-none}
 
 -- the groups are few
 pub count-few : (lines frames : ℕ) → lines ≤ 4096 → frames ≤ 4096 → frames / 16 * lines ≤ 1048576
 count-few lines frames a b = mul-le-mul {n₁ = frames / 16} {m₁ = lines} {n₂ = 256} {m₂ = 4096} (omega arith) a
-
-pub entered-told : (before now : List ℕ) (tag kept : ℕ) → now ≡ rewrite (tag + 1) (λ _ e. min e kept) before → Entered tag kept before now
-unfolding entered
-entered-told before now tag kept e =
-    record {
-      exact = λ o. e;
-      long = ap length e ∙ rewrite-length (λ _ e. min e kept) before (tag + 1);
-      past = λ k h. ap (λ (xs : List ℕ). getD xs k 0) e ∙ rewrite-past (λ _ e. min e kept) before (tag + 1) k (omega arith);
-    }
 
 -- what the sweep stores for a group without bits, and for any
 pub masked-bare : (g s u : ℕ) (history : List ℕ) → (u ≤ 16) × (256 ≤ length history) → g % 65536 ≡ 0 → 0 ≡ cutOf g s u 0 (boundOf history g)

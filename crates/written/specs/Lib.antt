@@ -1,3 +1,4 @@
 pub mod Bits
 pub mod Steps
 pub mod Well
+pub mod Walks

@@ -1,10 +1,11 @@
 -- What writing, a rollback and an advance leave in the groups and the history.
 use Prim.Native.Nat.{ℕ, zero, suc, _+_, _-_, _*_, _/_, _%_, _≤_, _<_, min}
 use mathlib.Core.Path.{_≡_}
-use mathlib.Core.Bool.{cond}
+use mathlib.Core.Bool.{Bool, cond}
 use mathlib.Core.List.{List}
-use lib.Dec.{eqb, ltb}
+use lib.Dec.{eqb, leb, ltb}
 use lib.ListN.{length, getD, set}
+use Rattle.rules.specs.Seen.{any, count}
 use Rattle.frames.specs.Circle.{frameAt}
 use Rattle.numbers.specs.Digits.{setAt, unsetAt}
 use Rattle.lists.specs.Lists.{rewrite, rewriteFrom}
@@ -33,11 +34,31 @@ entered tag kept history = rewrite (tag + 1) (λ t e. min e kept) history
 abbrev pub Ordered : (tag : ℕ) → List ℕ → Type 0
 Ordered tag history = (t : ℕ) → t < tag → getD history t 0 ≤ getD history (t + 1) 0
 
--- A rollback entered in the history: "A rollback compares its target with every entry of the history." Nothing is said of how.
+-- A rollback entered in the history: where the history is in order, every used entry is then at least as deep as the target. Nothing is
+-- said of how.
 pub record Entered (tag kept : ℕ) (before after : List ℕ) : Type 0 where
   pub exact : Ordered tag before → after ≡ entered tag kept before
   pub long : length after ≡ length before
   pub past : (t : ℕ) → tag < t → getD after t 0 ≡ getD before t 0
+
+-- How it is done, on any contents (request 2.2): "the walk from newest to oldest is to stop at the first entry at least as deep as the
+-- target (document 004, Figure 4), and at the bottom". What it leaves of a history with so many used entries:
+unfoldable pub settled : (kept used : ℕ) → List ℕ → List ℕ
+settled kept zero history = history
+settled kept (suc t) history = cond (leb (getD history t 0) kept) history (settled kept t (set history t kept))
+
+-- "The walk tells how many entries it compared",
+unfoldable pub compared : (kept used : ℕ) → List ℕ → ℕ
+compared kept zero history = 0
+compared kept (suc t) history = suc (cond (leb (getD history t 0) kept) 0 (compared kept t history))
+
+-- which in a history in order are "those less deep than the target,
+abbrev pub lessDeep : (kept used : ℕ) → List ℕ → ℕ
+lessDeep kept used history = count used (λ t. ltb kept (getD history t 0))
+
+-- and the one it stopped at, if any".
+abbrev pub stops : (kept used : ℕ) → List ℕ → Bool
+stops kept used history = any used (λ t. leb (getD history t 0) kept)
 
 -- "When its tags run out the store sweeps stale bits and starts afresh": every group of a working area with the bits that stand, and tag 0,
 abbrev pub sweptArea : Written → (area : ℕ) → List ℕ

@@ -26,8 +26,7 @@ pub record WellBits (w : Written) (tag live : ℕ) : Type 0 where
   pub tags : TagsKnown (w .frames / 16 * w .lines) tag (w .groups)
   -- the current tag has no rollback since: a fresh write would not be effective
   pub open-tag : getD (w .history) tag 0 ≡ 65535
-  -- no entry is less deep than a newer one, which all storage reached from RESET meets: the walk over the history that enters a rollback
-  -- compares every used entry and would do without it; a walk from the newest entry on could stop too soon
+  -- no entry is less deep than a newer one, which all storage reached from RESET meets: the walk that enters a rollback would stop too soon
   pub ordered : Ordered tag (w .history)
   -- effective bits are in live frames only: MARK would open a frame with a bit
   pub only-live : OnlyLive w live

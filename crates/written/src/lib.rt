@@ -2,13 +2,13 @@
 // of numbers and lengths is tested by the store. Only our own crates call them.
 use numbers::Found;
 ghost use mathlib.Core.Path.{_≡_};
-ghost use Prim.Native.Nat.{_+_, _*_, _/_, _≤_, _<_, min};
+ghost use Prim.Native.Nat.{_+_, _*_, _/_, _≤_, _<_};
 ghost use lib.ListN;
 ghost use lib.ListN.{length, getD};
 ghost use Rattle.rules.specs.Seen.{needs};
 ghost use Rattle.frames.specs.Circle.{Turn, indexOf};
 ghost use Rattle.written.specs.Bits.{writtenAt, AsksWritten, Asks, AsksBlock, AsksSet, Near, placeOf, boundOf, effective, newestFrom, newestRun, newestInArea, downOf, upOf, standsIn, runHas, blockHas, setIn, firstIndex, beforeWrap, afterWrap, cutOf, windowOf};
-ghost use Rattle.written.specs.Steps.{AsksWindow, AsksReset, regrouped, withWritten, Entered, sweptArea, swept, unsetIn, clearedBlock, lowerBound, lowered, RolledBack, blanked};
+ghost use Rattle.written.specs.Steps.{AsksWindow, AsksReset, regrouped, withWritten, Entered, settled, compared, sweptArea, swept, unsetIn, clearedBlock, lowerBound, lowered, RolledBack, blanked};
 
 // What places the lent lists: L, the circle of frames and OMF.
 pub struct Shape {
@@ -301,27 +301,25 @@ pub fn set(groups: &mut [u32], history: &[u16], shape: Shape, tag: u32, line: u3
     put_group(groups, shape, frame / 16, line, after);
 }
 
-// The deeper of two targets.
-fn deeper(bound: u16, kept: u16) -> u16
-    ensures { λ r. ⌜ r ≡ min bound kept ⌝ }
-{
-    if kept < bound {
-        return kept;
-    }
-    bound
-}
-
-// Enters a rollback that keeps so many frames in the history: every used entry is compared.
-fn enter(history: &mut [u16], tag: u32, kept: u16)
+// Enters a rollback to so many kept frames in the history, from the newest used entry to the oldest, up to the first that is at least as
+// deep as this target. Gives how many entries were compared.
+fn enter(history: &mut [u16], tag: u32, kept: u16) -> usize
     requires { ⌜ (tag < 256) × (256 ≤ length (now history)) ⌝ }
-    ensures { λ _. ⌜ Entered tag kept (now (history .entry)) (now (history .exit)) ⌝ }
+    ensures entered { λ _. ⌜ Entered tag kept (now (history .entry)) (now (history .exit)) ⌝ }
+    ensures settled { λ _. ⌜ now (history .exit) ≡ settled kept (tag + 1) (now (history .entry)) ⌝ }
+    ensures compared { λ r. ⌜ r ≡ compared kept (tag + 1) (now (history .entry)) ⌝ }
 {
     let used = tag as usize + 1;
-    let mut t = 0;
-    while t < used {
-        history[t] = deeper(history[t], kept);
-        t = t + 1;
+    let mut left = used;
+    while 0 < left {
+        let t = left - 1;
+        if history[t] <= kept {
+            return used - t;
+        }
+        history[t] = kept;
+        left = t;
     }
+    used
 }
 
 // The bits of a group that stand.

@@ -1,4 +1,4 @@
-//! Each call by itself, on a store prepared for it: timed for `--growth`, counted by callgrind for `--calls` and `--full`.
+//! Each call by itself, on a store prepared for it: timed for `--growth`, counted by callgrind for `--calls`, `--full`, `--level` and `--falling`.
 use crate::peer::{Paged, Peer};
 use crate::workload::Settings;
 use std::hint::black_box;
@@ -229,6 +229,29 @@ impl<P: Peer> Prepared<P> {
         timed(1, || call_sweep(&mut self.peer))
     }
 
+    /// So many tags in use, by marks and rollbacks at one level since the last sweep.
+    fn use_tags(&mut self, tags: u32) {
+        self.turns((tags + 255 - self.rollbacks) % 256);
+    }
+
+    /// One more mark and rollback at that level.
+    fn level(&mut self, tags: u32) -> Took {
+        self.use_tags(tags);
+        self.peer.mark();
+        self.rollbacks = tags;
+        timed(1, || call_rollback(&mut self.peer, 1))
+    }
+
+    /// A rollback without a mark between, to one frame less than every rollback since the last sweep.
+    fn falling(&mut self, tags: u32) -> Took {
+        self.use_tags(tags);
+        let took = timed(1, || call_rollback(&mut self.peer, 1));
+        self.rollbacks = tags;
+        self.live -= 1;
+        self.grow(1);
+        took
+    }
+
     fn advance(&mut self) -> Took {
         let k = 4.min(self.live - 1);
         let took = timed(1, || call_advance(&mut self.peer, k));
@@ -281,6 +304,34 @@ pub fn all<P: Peer>(
     }
     for _ in 0..turns {
         sink("sweep", store.sweep());
+    }
+}
+
+/// Where a rollback goes after rollbacks at one level.
+#[derive(Clone, Copy)]
+pub enum Target {
+    /// there again
+    Level,
+    /// one frame below it
+    Falling,
+}
+
+/// A rollback with so many tags in use, fewer than all, as `all` has its own.
+pub fn with_tags<P: Peer>(
+    settings: Settings,
+    live: u32,
+    turns: u32,
+    target: Target,
+    tags: u32,
+    mut sink: impl FnMut(&'static str, Took),
+) {
+    let mut store = Prepared::<P>::new(settings, live);
+    for _ in 0..turns {
+        let took = match target {
+            Target::Level => store.level(tags),
+            Target::Falling => store.falling(tags),
+        };
+        sink("rollback", took);
     }
 }
 

@@ -7,13 +7,15 @@
 //! then 1 at the end.
 //!
 //! `--growth`: how the cost of each call grows with L, F, P and the live frames, as a table with tabs.
-//! `--replay LIST`, `--calls PEER`, `--full PEER PAGES` and `--block`: what `rust/account` has callgrind count.
+//! `--replay LIST`, `--calls PEER`, `--full PEER PAGES`, `--level PEER TAGS`, `--falling PEER TAGS` and `--block`: what `rust/account` has
+//! callgrind count.
 #![deny(unsafe_code)]
 
 mod block;
 mod cases;
 mod chip;
 mod growth;
+mod history;
 mod latency;
 mod peer;
 mod plain;
@@ -24,6 +26,7 @@ mod sqlite;
 mod table;
 mod workload;
 
+use cases::Target;
 use chip::Chip;
 use peer::{Paged, Peer};
 use std::collections::BTreeMap;
@@ -84,6 +87,12 @@ fn full<P: Paged>(pages: &str) {
     counted(|sink| cases::full::<P>(settings, LIVE, TURNS, sink));
 }
 
+/// The rollbacks of `--level` and `--falling`, with so many tags in use.
+fn with_tags<P: Peer>(target: Target, tags: &str) {
+    let tags = tags.parse().expect("a number of tags");
+    counted(|sink| cases::with_tags::<P>(FINE, LIVE, TURNS, target, tags, sink));
+}
+
 /// The writes of a short `block`, by the block call and singly.
 fn blocks() {
     let list = workload::block(BLOCK, 20_000);
@@ -107,9 +116,13 @@ fn main() -> ExitCode {
         ["--calls", "chip-rust"] => calls::<Chip>(),
         ["--full", "ours", pages] => full::<Store>(pages),
         ["--full", "chip-rust", pages] => full::<Chip>(pages),
+        ["--level", "ours", tags] => with_tags::<Store>(Target::Level, tags),
+        ["--level", "chip-rust", tags] => with_tags::<Chip>(Target::Level, tags),
+        ["--falling", "ours", tags] => with_tags::<Store>(Target::Falling, tags),
+        ["--falling", "chip-rust", tags] => with_tags::<Chip>(Target::Falling, tags),
         ["--block"] => blocks(),
         _ => {
-            eprintln!("usage: bench [--growth | --replay fine|tight | --calls ours|chip-rust | --full ours|chip-rust PAGES | --block]");
+            eprintln!("usage: bench [--growth | --replay fine|tight | --calls ours|chip-rust | --full ours|chip-rust PAGES | --level|--falling ours|chip-rust TAGS | --block]");
             return ExitCode::FAILURE;
         }
     }

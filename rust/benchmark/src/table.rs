@@ -1,6 +1,7 @@
 //! The table of the benchmark: every workload on ours and on each peer, the slowest calls, and the bars.
 use crate::block;
 use crate::chip::Chip;
+use crate::history;
 use crate::latency::{self, Slowest};
 use crate::peer::{answers, compare, timed, Peer, Seen};
 use crate::plain::{Idle, LineJournal, UndoLog, WholeCopy};
@@ -148,6 +149,18 @@ fn compare_blocks(list: &Workload) -> Result<(), String> {
     block::compare(list, &ours).map_err(told)?;
     compare::<Chip>(list.settings, &list.ops, &ours).map_err(told)?;
     compare::<UndoLog>(list.settings, &list.ops, &ours).map_err(told)
+}
+
+/// The rollback history of ours and of `chip-rust` is the same after every rollback; tells how many of its entries a rollback compares.
+fn same_histories(list: &Workload) -> Result<(), String> {
+    let walks = history::walks(list).map_err(|words| format!("{}: {words}", list.name))?;
+    println!(
+        "# {}: a rollback compares {:.2} entries of the history on average and {} at most",
+        list.name,
+        walks.compared as f64 / walks.rollbacks as f64,
+        walks.most
+    );
+    Ok(())
 }
 
 #[cfg(sqlite)]
@@ -300,13 +313,19 @@ pub fn run() -> Result<(), String> {
     for list in &lists {
         println!("{}", list.heading());
         compare_all(list)?;
+        same_histories(list)?;
     }
     compare_all(&long)?;
+    same_histories(&long)?;
     let in_blocks = workload::block(BLOCK, 200_000);
     println!("{}", in_blocks.heading());
     compare_blocks(&in_blocks)?;
+    same_histories(&in_blocks)?;
     println!(
         "# every value read is the same on ours and on each peer, and on chip-rust every origin; on sqlite, those of the calls timed beside it"
+    );
+    println!(
+        "# after every rollback the used entries of the history are the same on ours and on chip-rust, which counted those it compared"
     );
     println!(
         "# beside a peer that has no pages ours too plays the list without the writes that get 13"

@@ -23,7 +23,7 @@ same-length : tie.Need-same-length
 same-length c = search needs
 
 returns : tie.Need-returns
-returns c = rolled-next _ _ _ _ (c .before .before .before .enter .ensures) (c .if1 .taken)
+returns c = rolled-next _ _ _ _ (c .before .before .before .enter .ensures .0) (c .if1 .taken)
 
 sweep-requires : tie.Need-sweep-requires
 sweep-requires c κs = search needs
@@ -38,7 +38,9 @@ same-length-3 : tie.Need-same-length-3
 same-length-3 c = search needs
 
 returns-2 : tie.Need-returns-2
-returns-2 c = rolled-swept _ _ _ _ (c .before .before .before .before .before .before .before .before .enter .ensures) _ (c .before .before .before .before .before .if1 .left) (c .before .before .sweep .ensures)
+returns-2 c =
+    let e : tie.After-enter = search in
+    rolled-swept _ _ _ _ (e .enter .ensures .0) _ (c .before .before .before .before .before .if1 .left) (c .before .before .sweep .ensures)
 
 pub rollback-spec : {M : Type 1} → statement M
 rollback-spec =

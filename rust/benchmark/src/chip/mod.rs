@@ -230,17 +230,23 @@ impl Chip {
         Ok(())
     }
 
-    fn rollback(&mut self, k: u32) -> Result<(), Refusal> {
+    /// Gives how many entries of the history were compared.
+    pub fn rollback(&mut self, k: u32) -> Result<usize, Refusal> {
         if k == 0 || k >= self.live {
             return Err(Refusal::Marks);
         }
         self.live -= k;
         self.cmf = self.written.frame_at(self.live - 1);
-        self.written.rollback(self.live);
+        let compared = self.written.rollback(self.live);
         let (written, live) = (&self.written, self.live);
         self.cache.forget(|frame| written.index_of(frame) >= live);
         self.used = self.pages_below(self.live);
-        Ok(())
+        Ok(compared)
+    }
+
+    /// The entries of the tags in use.
+    pub fn history(&self) -> &[u16] {
+        self.written.history()
     }
 
     /// Copies the lines written in a page to the archive, and clears their bits.

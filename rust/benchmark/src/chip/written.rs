@@ -111,16 +111,35 @@ impl Written {
         };
     }
 
-    pub fn rollback(&mut self, kept: u32) {
-        let kept = kept as u16;
-        for bound in &mut self.history[..=usize::from(self.tag)] {
-            *bound = kept.min(*bound);
+    /// The entries of the tags in use, from the oldest to the newest.
+    pub fn history(&self) -> &[u16] {
+        &self.history[..=usize::from(self.tag)]
+    }
+
+    /// Enters a rollback in the history, from the newest entry to the oldest, up to the first that is at least as deep. Gives how
+    /// many were compared.
+    fn enter(&mut self, kept: u16) -> usize {
+        let used = &mut self.history[..=usize::from(self.tag)];
+        let mut compared = 0;
+        for bound in used.iter_mut().rev() {
+            compared += 1;
+            if *bound <= kept {
+                break;
+            }
+            *bound = kept;
         }
+        compared
+    }
+
+    /// Gives how many entries of the history were compared.
+    pub fn rollback(&mut self, kept: u32) -> usize {
+        let compared = self.enter(kept as u16);
         if self.tag == u8::MAX {
             self.sweep();
         }
         self.tag = self.tag.wrapping_add(1);
         self.history[usize::from(self.tag)] = u16::MAX;
+        compared
     }
 
     fn sweep(&mut self) {

@@ -5,6 +5,7 @@ use crate::memory::Lengths;
 use crate::plain::{refusal, Facts, Plain, Settings};
 use crate::ring::{ends, ring_on_any, ring_on_well};
 use crate::rng::Rng;
+use crate::rolled::{rolled_back_on_any, Stops};
 use crate::script::{bad_settings, Script};
 use crate::spot;
 use crate::stored::Stored;
@@ -17,10 +18,11 @@ use vcm::{Registers, State};
 /// The kinds of calls: the nine of a script, and RESET.
 const KINDS: usize = 10;
 
-/// What was done, how often each clause alone turned storage down, and how often a call of each kind was accepted with both ring registers
-/// past the pool.
+/// What was done, where ROLLBACK's walks stopped, how often each clause alone turned storage down, and how often a call of each kind was accepted
+/// with both ring registers past the pool.
 pub struct Judge {
     pub tally: Tally,
+    pub stops: Stops,
     alone: [u64; CLAUSES.len()],
     past_ends: [u64; KINDS],
 }
@@ -131,7 +133,8 @@ fn settings_after(known: &Known, call: Call) -> Settings {
     }
 }
 
-/// What an accepted call leaves, on any storage: pieces that it does not write, memory past the need, and of the registers what is fixed.
+/// What an accepted call leaves, on any storage: pieces that it does not write, memory past the need, and of the registers what is fixed; of
+/// ROLLBACK and ADVANCE every element.
 pub fn is_kept(stored: &Stored, before: &Stored, call: Call, need: Lengths) -> Result<(), String> {
     let changed = stored.memory.changed(&before.memory);
     if let Some(piece) = changed.iter().find(|piece| !writes(call).contains(piece)) {
@@ -141,8 +144,10 @@ pub fn is_kept(stored: &Stored, before: &Stored, call: Call, need: Lengths) -> R
     if !past.is_empty() {
         return Err(format!("{past:?} past the need is touched"));
     }
-    if let Call::Advance(k) = call {
-        collected_on_any(before, stored, k)?;
+    match call {
+        Call::Rollback(k) => rolled_back_on_any(before, stored, k)?,
+        Call::Advance(k) => collected_on_any(before, stored, k)?,
+        _ => {}
     }
     ring_on_any(before, stored, call)
 }
@@ -195,6 +200,9 @@ impl Judge {
         }
         let need = Lengths::of(settings_after(&known, call));
         is_kept(stored, &before, call, need).map_err(fail)?;
+        if let Call::Rollback(k) = call {
+            self.stops.add(&before, k);
+        }
         is_right(stored, &before, call, known).map_err(fail)?;
         Ok(given)
     }
@@ -330,6 +338,7 @@ pub fn changed(rng: &Rng, world: &World, rows: u32) -> (Stored, u32) {
 pub fn run(worlds: u32, rows: u32) -> Result<Judge, String> {
     let mut judge = Judge {
         tally: Tally::default(),
+        stops: Stops::default(),
         alone: [0; CLAUSES.len()],
         past_ends: [0; KINDS],
     };

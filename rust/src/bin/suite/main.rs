@@ -14,6 +14,7 @@ mod ring;
 mod ring_damage;
 mod ring_edges;
 mod rng;
+mod rolled;
 mod script;
 mod side;
 mod sizing;
@@ -76,6 +77,7 @@ fn suite(size: Size) -> Result<Tally, String> {
     done("side by side", &side::runs(size.runs, size.steps)?);
     let judge = arbitrary::run(size.worlds, size.row)?;
     println!("turned down by one clause alone: {}", judge.clauses()?);
+    println!("{}", judge.stops.words()?);
     done("arbitrary", &judge.tally);
     done("blocks", &write_block::run(size.blocks)?);
     if !all.is_balanced() {

@@ -26,7 +26,7 @@ withWritten w tag l i =
     let g = getD (w .groups) at 0 in
     set (w .groups) at (regrouped (w .frames) (w .omf) f (boundOf (w .history) g) tag g)
 
--- Every used entry at least as deep as the target.
+-- Every used entry the deeper of itself and the target.
 unfoldable pub entered : (tag kept : ℕ) → List ℕ → List ℕ
 entered tag kept history = rewrite (tag + 1) (λ t e. min e kept) history
 
@@ -34,8 +34,7 @@ entered tag kept history = rewrite (tag + 1) (λ t e. min e kept) history
 abbrev pub Ordered : (tag : ℕ) → List ℕ → Type 0
 Ordered tag history = (t : ℕ) → t < tag → getD history t 0 ≤ getD history (t + 1) 0
 
--- A rollback entered in the history: where the history is in order, every used entry is then at least as deep as the target. Nothing is
--- said of how.
+-- A rollback entered in the history: exactly so where the history is in order. Nothing is said of how.
 pub record Entered (tag kept : ℕ) (before after : List ℕ) : Type 0 where
   pub exact : Ordered tag before → after ≡ entered tag kept before
   pub long : length after ≡ length before

@@ -301,8 +301,8 @@ pub fn set(groups: &mut [u32], history: &[u16], shape: Shape, tag: u32, line: u3
     put_group(groups, shape, frame / 16, line, after);
 }
 
-// Enters a rollback to so many kept frames in the history, from the newest used entry to the oldest, up to the first that is at least as
-// deep as this target. Gives how many entries were compared.
+// Enters a rollback that keeps so many frames: from the newest used entry of the history on, each that is less deep gets the target, up to
+// the first that is not. Gives how many were compared, that one included.
 fn enter(history: &mut [u16], tag: u32, kept: u16) -> usize
     requires { ⌜ (tag < 256) × (256 ≤ length (now history)) ⌝ }
     ensures entered { λ _. ⌜ Entered tag kept (now (history .entry)) (now (history .exit)) ⌝ }

@@ -245,8 +245,8 @@ impl<P: Peer> Prepared<P> {
     /// A rollback without a mark between, to one frame less than every rollback since the last sweep.
     fn falling(&mut self, tags: u32) -> Took {
         self.use_tags(tags);
-        let took = timed(1, || call_rollback(&mut self.peer, 1));
         self.rollbacks = tags;
+        let took = timed(1, || call_rollback(&mut self.peer, 1));
         self.live -= 1;
         self.grow(1);
         took
@@ -316,7 +316,7 @@ pub enum Target {
     Falling,
 }
 
-/// A rollback with so many tags in use, fewer than all, as `all` has its own.
+/// A rollback with so many tags in use, fewer than all; `sink` gets what each turn took.
 pub fn with_tags<P: Peer>(
     settings: Settings,
     live: u32,
@@ -325,6 +325,7 @@ pub fn with_tags<P: Peer>(
     tags: u32,
     mut sink: impl FnMut(&'static str, Took),
 ) {
+    assert!((1..=255).contains(&tags), "tags in use, fewer than all");
     let mut store = Prepared::<P>::new(settings, live);
     for _ in 0..turns {
         let took = match target {
@@ -335,8 +336,8 @@ pub fn with_tags<P: Peer>(
     }
 }
 
-/// The cases of a full pool, as `all` has its own. A turn has as many rollbacks as one of `all`, for what a rollback costs can depend on the tags
-/// in use.
+/// The cases of a full pool, as `all` has its own. A turn has as many rollbacks as one of `all`, for what a rollback costs depends on the entries
+/// that those before it left in the history.
 pub fn full<P: Paged>(
     settings: Settings,
     live: u32,

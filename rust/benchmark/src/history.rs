@@ -93,10 +93,9 @@ pub fn walks(list: &Workload) -> Result<Walks, String> {
     let mut walks = Walks::default();
     for (place, op) in list.ops.iter().enumerate() {
         let refusal = ours.step(*op);
-        let due = if matches!(op, Op::Refused { .. }) {
-            13
-        } else {
-            0
+        let due = match op {
+            Op::Refused { .. } => 13,
+            _ => 0,
         };
         if refusal != due {
             return Err(format!("call {place} gets {refusal} on ours"));

@@ -1,7 +1,7 @@
 //! The proved store beside its peers.
 //!
-//! Without an argument: the workloads of the report's section VI on ours and on every peer. All answers are compared first, and a difference
-//! ends the program with status 1. Then lines `bench WORKLOAD PEER ns_ours ns_peer ratio`, nanoseconds for each call of the list and ours over
+//! Without an argument: the workloads of the report's section VI on ours and on every peer. All answers are compared first, and with
+//! `chip-rust` the rollback history after every rollback; a difference ends the program with status 1. Then lines `bench WORKLOAD PEER ns_ours ns_peer ratio`, nanoseconds for each call of the list and ours over
 //! the peer's, and a line for each bar. In the list `block` a run of writes is one block on ours, and beside it stands ours by single WRITEs,
 //! `ours-single`. Bars are aims of speed: one that is missed does not change the status. A peer that is missing is told, and the status is
 //! then 1 at the end.

@@ -151,7 +151,7 @@ fn compare_blocks(list: &Workload) -> Result<(), String> {
     compare::<UndoLog>(list.settings, &list.ops, &ours).map_err(told)
 }
 
-/// The rollback history of ours and of `chip-rust` is the same after every rollback; tells how many of its entries a rollback compares.
+/// Compares the rollback history of ours and of `chip-rust` after every rollback, and tells how many entries a rollback compares.
 fn same_histories(list: &Workload) -> Result<(), String> {
     let walks = history::walks(list).map_err(|words| format!("{}: {words}", list.name))?;
     println!(

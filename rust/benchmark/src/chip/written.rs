@@ -116,8 +116,8 @@ impl Written {
         &self.history[..=usize::from(self.tag)]
     }
 
-    /// Enters a rollback in the history, from the newest entry to the oldest, up to the first that is at least as deep. Gives how
-    /// many were compared.
+    /// Enters a rollback: from the newest used entry of the history on, each that is less deep gets the target, up to the first that is not.
+    /// Gives how many were compared, that one included.
     fn enter(&mut self, kept: u16) -> usize {
         let used = &mut self.history[..=usize::from(self.tag)];
         let mut compared = 0;

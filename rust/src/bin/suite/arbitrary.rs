@@ -1,4 +1,4 @@
-//! Every call on arbitrary state and memory, each judged by what document 01 fixes of it.
+//! Every call on arbitrary state and memory, each judged by what document 01, the requests and the definitions fix of it.
 use crate::call::{ask, Answer, Call};
 use crate::collect::collected_on_any;
 use crate::memory::Lengths;
@@ -134,7 +134,7 @@ fn settings_after(known: &Known, call: Call) -> Settings {
 }
 
 /// What an accepted call leaves, on any storage: pieces that it does not write, memory past the need, and of the registers what is fixed; of
-/// ROLLBACK and ADVANCE every element.
+/// ROLLBACK and ADVANCE every element of lent memory.
 pub fn is_kept(stored: &Stored, before: &Stored, call: Call, need: Lengths) -> Result<(), String> {
     let changed = stored.memory.changed(&before.memory);
     if let Some(piece) = changed.iter().find(|piece| !writes(call).contains(piece)) {

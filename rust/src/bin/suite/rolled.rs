@@ -1,11 +1,11 @@
-//! What ROLLBACK leaves of the tag, the history and the groups, on any storage. On a history that is not in order this is more than its contract
-//! says: there only the walk itself promises what it leaves.
-//! Written from request 2.2 with the report's Figure 4, and for tags and sweep from document 01, not from the library's code.
+//! What ROLLBACK leaves of the tag, the history and the groups, on any storage. On a history that is not in order this is more than ROLLBACK's
+//! contract says: there `written::enter` alone promises what is left.
+//! Written from request 2.2 with the report's Figure 4, and for tags and sweep from document 01 and the definitions, not from the library's code.
 use crate::memory::Lengths;
 use crate::stored::Stored;
 use crate::wellformed::{settings_of, OPEN};
 
-/// A rollback to a target: the tag that it finds, and the target.
+/// A walk over the history: the tag of its newest entry, and its target.
 struct Walk {
     tag: usize,
     target: u16,
@@ -83,8 +83,8 @@ pub struct Stops {
     equal: u64,
     deeper: u64,
     bottom: u64,
-    equal_before_less_deep: u64,
-    deeper_before_less_deep: u64,
+    equal_over_less_deep: u64,
+    deeper_over_less_deep: u64,
 }
 
 impl Stops {
@@ -102,10 +102,10 @@ impl Stops {
         let has_less_deep = entries[..stop].iter().any(|entry| target < *entry);
         if entries[stop] == target {
             self.equal += 1;
-            self.equal_before_less_deep += u64::from(has_less_deep);
+            self.equal_over_less_deep += u64::from(has_less_deep);
         } else {
             self.deeper += 1;
-            self.deeper_before_less_deep += u64::from(has_less_deep);
+            self.deeper_over_less_deep += u64::from(has_less_deep);
         }
     }
 
@@ -113,11 +113,12 @@ impl Stops {
     pub fn words(&self) -> Result<String, String> {
         let words = format!(
             "walks that stopped at an equal entry: {}, at a deeper one: {}, at the bottom: {}; with an older, less deep entry at an equal one: {}, at a deeper one: {}",
-            self.equal, self.deeper, self.bottom, self.equal_before_less_deep, self.deeper_before_less_deep
+            self.equal, self.deeper, self.bottom, self.equal_over_less_deep, self.deeper_over_less_deep
         );
+        // the other two contain the first two
         let least = [
-            self.equal_before_less_deep,
-            self.deeper_before_less_deep,
+            self.equal_over_less_deep,
+            self.deeper_over_less_deep,
             self.bottom,
         ];
         if least.contains(&0) {

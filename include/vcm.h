@@ -31,7 +31,7 @@
 #include <stdint.h>
 
 /* CHANGELOG.md says what each version brought. */
-#define VCM_VERSION "0.3.0"
+#define VCM_VERSION "0.3.1"
 
 /* A program does not compile where a struct has another size than in libvcm.a. C99 has no assertion for that, but there too an array of
  * negative size is an error. */

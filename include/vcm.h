@@ -319,9 +319,10 @@ static inline vcm_verdict vcm_check(const vcm_state *state, const vcm_memory *me
 
 /* ---- What the library exports -----------------------------------------------------------------------------------------------------
  *
- * The functions above hand the state and the memory to these in their parts: the registers by value, the arrays of the cache that a call
- * looks at, and each lent piece as its pointer and length, const where the call does not write it. RESET and CHECK take the state by
- * value. A language without C's headers declares these.
+ * The functions above hand the state and the memory to these in their parts, where they lie: the registers as the array of their eight
+ * numbers, the arrays of the cache that a call looks at, and each lent piece as its pointer and length, const where the call does not write
+ * it. RESET and CHECK take the state by value. Those that give a uint32_t give the refusal or 0; refused, the registers stay as they are. A
+ * language without C's headers declares these.
  */
 
 /* The state after RESET, and its refusal or 0. Refused, the state is the one given. Size 788, alignment 4. */
@@ -330,52 +331,45 @@ typedef struct vcm_outcome {
     uint32_t refusal; /* 784 */
 } vcm_outcome;
 
-/* The registers after a call, and its refusal or 0. Refused, they are the ones given. Size 36, alignment 4. */
-typedef struct vcm_step {
-    vcm_registers registers; /*  0 */
-    uint32_t refusal;        /* 32 */
-} vcm_step;
-
 VCM_HAS_SIZE(vcm_outcome, 788);
-VCM_HAS_SIZE(vcm_step, 36);
 
 vcm_outcome vcm_raw_reset(vcm_state state, uint8_t *archive, size_t archive_len, const uint8_t *pool, size_t pool_len,
                           uint32_t *groups, size_t groups_len, const uint16_t *table, size_t table_len, const uint32_t *owners,
                           size_t owners_len, uint16_t *history, size_t history_len, uint32_t lines, uint32_t frames,
                           uint32_t pages);
-vcm_step vcm_raw_write(vcm_registers registers, uint32_t held[32], uint16_t origins[32], uint8_t valid[32], uint8_t bytes[512],
+uint32_t vcm_raw_write(uint32_t registers[8], uint32_t held[32], uint16_t origins[32], uint8_t valid[32], uint8_t bytes[512],
                        uint8_t last[16], const uint8_t *archive, size_t archive_len, uint8_t *pool, size_t pool_len,
                        uint32_t *groups, size_t groups_len, uint16_t *table, size_t table_len, uint32_t *owners, size_t owners_len,
                        const uint16_t *history, size_t history_len, uint32_t width, uint32_t address, uint32_t value);
 /* The items as numbers: width, address and value of one after the other. items_len is three times their count; one or two numbers left
  * over at the end are no item. */
-vcm_step vcm_raw_write_block(vcm_registers registers, uint32_t held[32], uint16_t origins[32], uint8_t valid[32], uint8_t bytes[512],
+uint32_t vcm_raw_write_block(uint32_t registers[8], uint32_t held[32], uint16_t origins[32], uint8_t valid[32], uint8_t bytes[512],
                              uint8_t last[16], const uint8_t *archive, size_t archive_len, uint8_t *pool, size_t pool_len,
                              uint32_t *groups, size_t groups_len, uint16_t *table, size_t table_len, uint32_t *owners,
                              size_t owners_len, const uint16_t *history, size_t history_len, const uint32_t *items,
                              size_t items_len, uint32_t *answers, size_t answers_len);
-vcm_reading vcm_raw_read(vcm_registers registers, uint32_t held[32], uint16_t origins[32], uint8_t valid[32], uint8_t bytes[512],
+vcm_reading vcm_raw_read(const uint32_t registers[8], uint32_t held[32], uint16_t origins[32], uint8_t valid[32], uint8_t bytes[512],
                          uint8_t last[16], const uint8_t *archive, size_t archive_len, const uint8_t *pool, size_t pool_len,
                          const uint32_t *groups, size_t groups_len, const uint16_t *table, size_t table_len, const uint32_t *owners,
                          size_t owners_len, const uint16_t *history, size_t history_len, uint32_t width, uint32_t address);
-uint32_t vcm_raw_line(vcm_registers registers, const uint8_t *archive, size_t archive_len, const uint8_t *pool, size_t pool_len,
+uint32_t vcm_raw_line(const uint32_t registers[8], const uint8_t *archive, size_t archive_len, const uint8_t *pool, size_t pool_len,
                       const uint32_t *groups, size_t groups_len, const uint16_t *table, size_t table_len, const uint32_t *owners,
                       size_t owners_len, const uint16_t *history, size_t history_len, uint32_t line, uint8_t bytes[16]);
-uint32_t vcm_raw_line_refusal(vcm_registers registers, const uint8_t *archive, size_t archive_len, const uint8_t *pool,
+uint32_t vcm_raw_line_refusal(const uint32_t registers[8], const uint8_t *archive, size_t archive_len, const uint8_t *pool,
                               size_t pool_len, const uint32_t *groups, size_t groups_len, const uint16_t *table, size_t table_len,
                               const uint32_t *owners, size_t owners_len, const uint16_t *history, size_t history_len,
                               uint32_t line);
-vcm_step vcm_raw_mark(vcm_registers registers, const uint8_t *archive, size_t archive_len, const uint8_t *pool, size_t pool_len,
+uint32_t vcm_raw_mark(uint32_t registers[8], const uint8_t *archive, size_t archive_len, const uint8_t *pool, size_t pool_len,
                       const uint32_t *groups, size_t groups_len, const uint16_t *table, size_t table_len, const uint32_t *owners,
                       size_t owners_len, const uint16_t *history, size_t history_len);
-vcm_step vcm_raw_rollback(vcm_registers registers, const uint16_t origins[32], uint8_t valid[32], const uint8_t *archive,
+uint32_t vcm_raw_rollback(uint32_t registers[8], const uint16_t origins[32], uint8_t valid[32], const uint8_t *archive,
                           size_t archive_len, const uint8_t *pool, size_t pool_len, uint32_t *groups, size_t groups_len,
                           const uint16_t *table, size_t table_len, const uint32_t *owners, size_t owners_len, uint16_t *history,
                           size_t history_len, uint32_t k);
-vcm_step vcm_raw_advance(vcm_registers registers, uint16_t origins[32], uint8_t *archive, size_t archive_len, const uint8_t *pool,
+uint32_t vcm_raw_advance(uint32_t registers[8], uint16_t origins[32], uint8_t *archive, size_t archive_len, const uint8_t *pool,
                          size_t pool_len, uint32_t *groups, size_t groups_len, const uint16_t *table, size_t table_len,
                          const uint32_t *owners, size_t owners_len, uint16_t *history, size_t history_len, uint32_t k);
-vcm_counted vcm_raw_counts(vcm_registers registers, const uint8_t *archive, size_t archive_len, const uint8_t *pool,
+vcm_counted vcm_raw_counts(const uint32_t registers[8], const uint8_t *archive, size_t archive_len, const uint8_t *pool,
                            size_t pool_len, const uint32_t *groups, size_t groups_len, const uint16_t *table, size_t table_len,
                            const uint32_t *owners, size_t owners_len, const uint16_t *history, size_t history_len);
 vcm_verdict vcm_raw_check(vcm_state state, const uint8_t *archive, size_t archive_len, const uint8_t *pool, size_t pool_len,
@@ -391,6 +385,17 @@ vcm_verdict vcm_raw_check(vcm_state state, const uint8_t *archive, size_t archiv
 
 /* The cache's five arrays. */
 #define VCM_CACHE_OF(s) (s)->cache.held, (s)->cache.origins, (s)->cache.valid, (s)->cache.bytes, (s)->cache.last
+
+/* The registers as the array that the library is lent, for a call that may write them and for one that only reads them. They are eight
+ * uint32_t without a gap, by their size, and so an array of numbers: each is looked at as what it is, a uint32_t, which C's aliasing rule
+ * allows. */
+static inline uint32_t *vcm_lent_registers(vcm_state *state) {
+    return (uint32_t *)(void *)&state->registers;
+}
+
+static inline const uint32_t *vcm_shown_registers(const vcm_state *state) {
+    return (const uint32_t *)(const void *)&state->registers;
+}
 
 static inline const char *vcm_refusal_text(uint32_t refusal) {
     switch (refusal) {
@@ -470,9 +475,7 @@ static inline uint32_t vcm_reset(vcm_state *state, const vcm_memory *memory, uin
 }
 
 static inline uint32_t vcm_write(vcm_state *state, const vcm_memory *memory, uint32_t width, uint32_t address, uint32_t value) {
-    vcm_step r = vcm_raw_write(state->registers, VCM_CACHE_OF(state), VCM_LENT(memory), width, address, value);
-    state->registers = r.registers;
-    return r.refusal;
+    return vcm_raw_write(vcm_lent_registers(state), VCM_CACHE_OF(state), VCM_LENT(memory), width, address, value);
 }
 
 /* An item is three uint32_t without a gap, by its size, so that a list of them is a list of numbers: each is looked at as what it is, a
@@ -481,44 +484,36 @@ static inline uint32_t vcm_write_block(vcm_state *state, const vcm_memory *memor
                                        uint32_t *answers, size_t answers_len) {
     uint32_t nothing = 0; /* where an empty list lies: aligned, and not NULL */
     const uint32_t *numbers = items_len == 0 ? &nothing : (const uint32_t *)(const void *)items;
-    vcm_step r = vcm_raw_write_block(state->registers, VCM_CACHE_OF(state), VCM_LENT(memory), numbers, 3 * items_len,
-                                     answers_len == 0 ? &nothing : answers, answers_len);
-    state->registers = r.registers;
-    return r.refusal;
+    return vcm_raw_write_block(vcm_lent_registers(state), VCM_CACHE_OF(state), VCM_LENT(memory), numbers, 3 * items_len,
+                               answers_len == 0 ? &nothing : answers, answers_len);
 }
 
 static inline vcm_reading vcm_read(vcm_state *state, const vcm_memory *memory, uint32_t width, uint32_t address) {
-    return vcm_raw_read(state->registers, VCM_CACHE_OF(state), VCM_LENT(memory), width, address);
+    return vcm_raw_read(vcm_shown_registers(state), VCM_CACHE_OF(state), VCM_LENT(memory), width, address);
 }
 
 static inline uint32_t vcm_line(const vcm_state *state, const vcm_memory *memory, uint32_t line, uint8_t bytes[16]) {
-    return vcm_raw_line(state->registers, VCM_LENT(memory), line, bytes);
+    return vcm_raw_line(vcm_shown_registers(state), VCM_LENT(memory), line, bytes);
 }
 
 static inline uint32_t vcm_line_refusal(const vcm_state *state, const vcm_memory *memory, uint32_t line) {
-    return vcm_raw_line_refusal(state->registers, VCM_LENT(memory), line);
+    return vcm_raw_line_refusal(vcm_shown_registers(state), VCM_LENT(memory), line);
 }
 
 static inline uint32_t vcm_mark(vcm_state *state, const vcm_memory *memory) {
-    vcm_step r = vcm_raw_mark(state->registers, VCM_LENT(memory));
-    state->registers = r.registers;
-    return r.refusal;
+    return vcm_raw_mark(vcm_lent_registers(state), VCM_LENT(memory));
 }
 
 static inline uint32_t vcm_rollback(vcm_state *state, const vcm_memory *memory, uint32_t k) {
-    vcm_step r = vcm_raw_rollback(state->registers, state->cache.origins, state->cache.valid, VCM_LENT(memory), k);
-    state->registers = r.registers;
-    return r.refusal;
+    return vcm_raw_rollback(vcm_lent_registers(state), state->cache.origins, state->cache.valid, VCM_LENT(memory), k);
 }
 
 static inline uint32_t vcm_advance(vcm_state *state, const vcm_memory *memory, uint32_t k) {
-    vcm_step r = vcm_raw_advance(state->registers, state->cache.origins, VCM_LENT(memory), k);
-    state->registers = r.registers;
-    return r.refusal;
+    return vcm_raw_advance(vcm_lent_registers(state), state->cache.origins, VCM_LENT(memory), k);
 }
 
 static inline vcm_counted vcm_counts(const vcm_state *state, const vcm_memory *memory) {
-    return vcm_raw_counts(state->registers, VCM_LENT(memory));
+    return vcm_raw_counts(vcm_shown_registers(state), VCM_LENT(memory));
 }
 
 static inline vcm_verdict vcm_check(const vcm_state *state, const vcm_memory *memory) {

@@ -1,5 +1,5 @@
-//! The proved library's C border, as it stands in its source: structs by value, an array as a pointer, a slice as pointer and length in
-//! elements.
+//! The proved library's C border, as it stands in its source: an array as a pointer, a slice as pointer and length in elements, a struct by
+//! value. The registers of a state are lent as the array of their eight numbers, where they lie; RESET and CHECK take the state by value.
 //!
 //! Nothing checks these declarations against the library. The assertions below fix the layout that both sides rely on; the suite
 //! compares every answer.
@@ -139,16 +139,6 @@ pub struct Outcome {
     pub refusal: u32,
 }
 
-/// The registers after a call, and its refusal or 0.
-#[repr(C)]
-#[derive(Clone, Copy)]
-pub struct Step {
-    /// The registers after the call; refused, the very ones given.
-    pub registers: Registers,
-    /// The refusal, or 0.
-    pub refusal: u32,
-}
-
 /// A read's answer in numbers.
 #[repr(C)]
 #[derive(Clone, Copy, Debug, PartialEq, Eq)]
@@ -194,7 +184,6 @@ const _: () = {
     assert!(size_of::<Item>() == 12 && align_of::<Item>() == 4);
     assert!(size_of::<Need>() == 56 && align_of::<Need>() == 8);
     assert!(size_of::<Outcome>() == 788 && align_of::<Outcome>() == 4);
-    assert!(size_of::<Step>() == 36 && align_of::<Step>() == 4);
     assert!(size_of::<Reading>() == 16 && align_of::<Reading>() == 4);
     assert!(size_of::<Counted>() == 12 && align_of::<Counted>() == 4);
     assert!(size_of::<Verdict>() == 8 && align_of::<Verdict>() == 4);
@@ -212,6 +201,7 @@ const _: () = {
         unsafe { *start.cast::<u8>().add(offset).cast::<u32>() }
     }
 
+    // eight numbers without a gap, in the order of the array that the library is lent
     let registers = Registers {
         lines: 1,
         frames: 2,
@@ -249,11 +239,6 @@ const _: () = {
     assert!(at(&state, 32) == 0x0909_0909 && at(&state, 780) == 0x0D0D_0D0D);
     let outcome = Outcome { state, refusal: 14 };
     assert!(at(&outcome, 0) == 1 && at(&outcome, 784) == 14);
-    let step = Step {
-        registers,
-        refusal: 14,
-    };
-    assert!(at(&step, 0) == 1 && at(&step, 32) == 14);
 
     let item = Item {
         width: 1,
@@ -324,7 +309,7 @@ extern "C" {
     ) -> Outcome;
 
     pub fn vcm_raw_write(
-        registers: Registers,
+        registers: *mut [u32; 8],
         held: *mut [u32; 32],
         origins: *mut [u16; 32],
         valid: *mut [u8; 32],
@@ -345,11 +330,11 @@ extern "C" {
         width: u32,
         address: u32,
         value: u32,
-    ) -> Step;
+    ) -> u32;
 
     /// The items as numbers, three each: their count is a third of `items_len`.
     pub fn vcm_raw_write_block(
-        registers: Registers,
+        registers: *mut [u32; 8],
         held: *mut [u32; 32],
         origins: *mut [u16; 32],
         valid: *mut [u8; 32],
@@ -371,10 +356,10 @@ extern "C" {
         items_len: usize,
         answers: *mut u32,
         answers_len: usize,
-    ) -> Step;
+    ) -> u32;
 
     pub fn vcm_raw_read(
-        registers: Registers,
+        registers: *const [u32; 8],
         held: *mut [u32; 32],
         origins: *mut [u16; 32],
         valid: *mut [u8; 32],
@@ -397,7 +382,7 @@ extern "C" {
     ) -> Reading;
 
     pub fn vcm_raw_line(
-        registers: Registers,
+        registers: *const [u32; 8],
         archive: *const u8,
         archive_len: usize,
         pool: *const u8,
@@ -415,7 +400,7 @@ extern "C" {
     ) -> u32;
 
     pub fn vcm_raw_line_refusal(
-        registers: Registers,
+        registers: *const [u32; 8],
         archive: *const u8,
         archive_len: usize,
         pool: *const u8,
@@ -432,7 +417,7 @@ extern "C" {
     ) -> u32;
 
     pub fn vcm_raw_mark(
-        registers: Registers,
+        registers: *mut [u32; 8],
         archive: *const u8,
         archive_len: usize,
         pool: *const u8,
@@ -445,10 +430,10 @@ extern "C" {
         owners_len: usize,
         history: *const u16,
         history_len: usize,
-    ) -> Step;
+    ) -> u32;
 
     pub fn vcm_raw_rollback(
-        registers: Registers,
+        registers: *mut [u32; 8],
         origins: *const [u16; 32],
         valid: *mut [u8; 32],
         archive: *const u8,
@@ -464,10 +449,10 @@ extern "C" {
         history: *mut u16,
         history_len: usize,
         k: u32,
-    ) -> Step;
+    ) -> u32;
 
     pub fn vcm_raw_advance(
-        registers: Registers,
+        registers: *mut [u32; 8],
         origins: *mut [u16; 32],
         archive: *mut u8,
         archive_len: usize,
@@ -482,10 +467,10 @@ extern "C" {
         history: *mut u16,
         history_len: usize,
         k: u32,
-    ) -> Step;
+    ) -> u32;
 
     pub fn vcm_raw_counts(
-        registers: Registers,
+        registers: *const [u32; 8],
         archive: *const u8,
         archive_len: usize,
         pool: *const u8,

@@ -36,7 +36,7 @@
 //! assert_eq!(reading.value, 1988);
 //! # Ok::<(), Refusal>(())
 //! ```
-use crate::border::{self, Counted, Item, Need, Reading, State, Step, Verdict};
+use crate::border::{self, Counted, Item, Need, Reading, Registers, State, Verdict};
 use crate::Refusal;
 
 /// The memory lent to a call that may write it. A piece may be longer than the need; what lies past the need is not touched.
@@ -113,7 +113,7 @@ macro_rules! call {
     };
 }
 
-// The cache's arrays are parts of a state that is borrowed for the call, exclusively where they are passed as `*mut`.
+// The registers and the cache's arrays are parts of a state that is borrowed for the call, exclusively where they are passed as `*mut`.
 
 /// Nothing for 0, and for any other number its refusal as an error.
 ///
@@ -141,11 +141,19 @@ pub fn blank() -> State {
     unsafe { border::vcm_blank() }
 }
 
-/// Takes over the registers that a call gives back, and hands on its refusal or 0.
+/// The registers as the array that the library is lent, where they lie, for a call that may write them. `Registers` is eight `u32` without
+/// a gap, which `border` asserts: it has the size and the alignment of the array, and any contents are a value of both.
 #[inline]
-fn step(state: &mut State, step: Step) -> u32 {
-    state.registers = step.registers;
-    step.refusal
+fn lent_registers(registers: &mut Registers) -> *mut [u32; 8] {
+    let registers: *mut Registers = registers;
+    registers.cast()
+}
+
+/// The same, for a call that only reads them.
+#[inline]
+fn shown_registers(registers: &Registers) -> *const [u32; 8] {
+    let registers: *const Registers = registers;
+    registers.cast()
 }
 
 /// RESET: an empty store with these settings, whatever the state and the memory held. It writes archive, groups and history, and gives
@@ -174,10 +182,10 @@ pub fn reset(state: &mut State, lent: &mut Lent, lines: u32, frames: u32, pages:
 pub fn write(state: &mut State, lent: &mut Lent, width: u32, address: u32, value: u32) -> u32 {
     let c = &mut state.cache;
     // SAFETY: any state and any memory is allowed; only exclusive slices are passed as `*mut`.
-    let after = unsafe {
+    unsafe {
         call!(
             vcm_raw_write(
-                state.registers,
+                lent_registers(&mut state.registers),
                 &mut c.held,
                 &mut c.origins,
                 &mut c.valid,
@@ -190,8 +198,7 @@ pub fn write(state: &mut State, lent: &mut Lent, width: u32, address: u32, value
             address,
             value
         )
-    };
-    step(state, after)
+    }
 }
 
 /// A block of writes: the items in order, each just as a [`write()`] of its own, and the refusal or 0 of each in its place of `answers`. A
@@ -225,10 +232,10 @@ pub fn write_block(state: &mut State, lent: &mut Lent, items: &[Item], answers: 
     let c = &mut state.cache;
     // SAFETY: any state and any memory is allowed; only exclusive slices are passed as `*mut`. An item is three numbers without a gap, and
     // a slice has at most isize::MAX bytes, so that the count of the numbers is right.
-    let after = unsafe {
+    unsafe {
         call!(
             vcm_raw_write_block(
-                state.registers,
+                lent_registers(&mut state.registers),
                 &mut c.held,
                 &mut c.origins,
                 &mut c.valid,
@@ -242,8 +249,7 @@ pub fn write_block(state: &mut State, lent: &mut Lent, items: &[Item], answers: 
             answers.as_mut_ptr(),
             answers.len()
         )
-    };
-    step(state, after)
+    }
 }
 
 /// READ: the value and its origin. It writes the cache.
@@ -255,7 +261,7 @@ pub fn read(state: &mut State, lent: Shown, width: u32, address: u32) -> Reading
     unsafe {
         call!(
             vcm_raw_read(
-                state.registers,
+                shown_registers(&state.registers),
                 &mut c.held,
                 &mut c.origins,
                 &mut c.valid,
@@ -274,23 +280,43 @@ pub fn read(state: &mut State, lent: Shown, width: u32, address: u32) -> Reading
 #[must_use]
 pub fn line(state: &State, lent: Shown, line: u32, bytes: &mut [u8; 16]) -> u32 {
     // SAFETY: any state and any memory is allowed; `bytes` is exclusive and has room for the 16 bytes.
-    unsafe { call!(vcm_raw_line(state.registers), lent, as_ptr, line, bytes) }
+    unsafe {
+        call!(
+            vcm_raw_line(shown_registers(&state.registers)),
+            lent,
+            as_ptr,
+            line,
+            bytes
+        )
+    }
 }
 
 /// LINE's companion: the refusal of [`line()`] on the same arguments, or 0.
 #[must_use]
 pub fn line_refusal(state: &State, lent: Shown, line: u32) -> u32 {
     // SAFETY: any state and any memory is allowed; nothing is passed as `*mut`.
-    unsafe { call!(vcm_raw_line_refusal(state.registers), lent, as_ptr, line) }
+    unsafe {
+        call!(
+            vcm_raw_line_refusal(shown_registers(&state.registers)),
+            lent,
+            as_ptr,
+            line
+        )
+    }
 }
 
 /// MARK: opens the next frame, and gives the refusal or 0.
 #[inline]
 #[must_use]
 pub fn mark(state: &mut State, lent: Shown) -> u32 {
-    // SAFETY: any state and any memory is allowed; nothing is passed as `*mut`.
-    let after = unsafe { call!(vcm_raw_mark(state.registers), lent, as_ptr) };
-    step(state, after)
+    // SAFETY: any state and any memory is allowed; no slice is passed as `*mut`.
+    unsafe {
+        call!(
+            vcm_raw_mark(lent_registers(&mut state.registers)),
+            lent,
+            as_ptr
+        )
+    }
 }
 
 /// ROLLBACK: drops the `k` newest frames. It writes the cache's valid flags, groups and history, and gives the refusal or 0.
@@ -298,15 +324,18 @@ pub fn mark(state: &mut State, lent: Shown) -> u32 {
 pub fn rollback(state: &mut State, lent: &mut Lent, k: u32) -> u32 {
     let c = &mut state.cache;
     // SAFETY: any state and any memory is allowed; only exclusive slices are passed as `*mut`.
-    let after = unsafe {
+    unsafe {
         call!(
-            vcm_raw_rollback(state.registers, &c.origins, &mut c.valid),
+            vcm_raw_rollback(
+                lent_registers(&mut state.registers),
+                &c.origins,
+                &mut c.valid
+            ),
             lent,
             as_mut_ptr,
             k
         )
-    };
-    step(state, after)
+    }
 }
 
 /// ADVANCE: folds the `k` oldest frames into the archive. It writes the frames of the cache's entries, archive, groups and history, and
@@ -315,22 +344,27 @@ pub fn rollback(state: &mut State, lent: &mut Lent, k: u32) -> u32 {
 pub fn advance(state: &mut State, lent: &mut Lent, k: u32) -> u32 {
     let c = &mut state.cache;
     // SAFETY: any state and any memory is allowed; only exclusive slices are passed as `*mut`.
-    let after = unsafe {
+    unsafe {
         call!(
-            vcm_raw_advance(state.registers, &mut c.origins),
+            vcm_raw_advance(lent_registers(&mut state.registers), &mut c.origins),
             lent,
             as_mut_ptr,
             k
         )
-    };
-    step(state, after)
+    }
 }
 
 /// COUNTS: the live frames and the pages needed.
 #[must_use]
 pub fn counts(state: &State, lent: Shown) -> Counted {
     // SAFETY: any state and any memory is allowed; nothing is passed as `*mut`.
-    unsafe { call!(vcm_raw_counts(state.registers), lent, as_ptr) }
+    unsafe {
+        call!(
+            vcm_raw_counts(shown_registers(&state.registers)),
+            lent,
+            as_ptr
+        )
+    }
 }
 
 /// CHECK: yes exactly if the storage is well-formed.

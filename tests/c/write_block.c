@@ -186,9 +186,9 @@ static void by_numbers(void) {
         start(&one);
         start(&twin);
         clear_answers();
-        vcm_step step = vcm_raw_write_block(one.state.registers, VCM_CACHE_OF(&one.state), VCM_LENT(&one.memory), numbers, 6 + more, answers, 2);
-        one.state.registers = step.registers;
-        expect(step.refusal == VCM_OK && answers[0] == 0 && answers[1] == 0 && kept_from(2));
+        uint32_t refusal =
+            vcm_raw_write_block(vcm_lent_registers(&one.state), VCM_CACHE_OF(&one.state), VCM_LENT(&one.memory), numbers, 6 + more, answers, 2);
+        expect(refusal == VCM_OK && answers[0] == 0 && answers[1] == 0 && kept_from(2));
         expect(vcm_write(&twin.state, &twin.memory, 1, 0, 7) == VCM_OK);
         expect(vcm_write(&twin.state, &twin.memory, 1, 16, 8) == VCM_OK);
         expect(same(&one, &twin));

@@ -3,21 +3,29 @@
 // state by value, `vcm` exports them.
 use cache::Entry;
 use numbers::Found;
+use storage::Given;
 use storage::Registers;
-use storage::Step;
 use versions::Origin;
 use versions::Spot;
 use versions::Version;
 ghost use mathlib.Core.Path.{_≡_};
+ghost use Prim.Native.Nat.{_*_, _/_, _%_};
+ghost use lib.ListN;
+ghost use Rattle.rules.specs.Line.{lineOf, offsetOf, edit};
+ghost use Rattle.rules.specs.Refusal.{lineRefusal, writeRefusal};
 ghost use Rattle.rules.specs.Call.Answer.{outcome, lending};
 ghost use Rattle.rules.specs.Call.Look.{LINE, LINE-REFUSAL};
+ghost use Rattle.lists.specs.Lines.{pasteLine};
 ghost use Rattle.written.specs.Bits.{writtenAt};
+ghost use Rattle.written.specs.Steps.{renewed};
+ghost use Rattle.pages.specs.Lines.{pageLine, withPageLine};
 ghost use Rattle.versions.specs.Newest.{originOf, newestOf, AsksNewest};
-ghost use Rattle.cache.specs.Entries.{cacheOf};
+ghost use Rattle.cache.specs.declared.Entry.the-variants.{Miss};
+ghost use Rattle.cache.specs.Entries.{cacheOf, bytesIn, hitIn};
 ghost use Rattle.cache.specs.Steps.{placedIn};
-ghost use Rattle.storage.specs.Storage.{memoryOf, lengthsIn, registersOf, shapeAt, stateOf, storageOf};
+ghost use Rattle.storage.specs.Storage.{memoryOf, lengthsIn, registersOf, settingsAt, shapeAt, stateOf, storageOf};
 ghost use Rattle.storage.specs.Admit.{admitted};
-ghost use Rattle.storage.specs.Steps.{Put, AsksWrite};
+ghost use Rattle.storage.specs.Steps.{givenRegisters, namedPage, Put, AsksWrite, AsksEdit};
 ghost use Rattle.storage.specs.Contracts.{Writes, Reads, Looks};
 
 // The value of a read and its origin, with the refusal or 0.
@@ -88,9 +96,49 @@ fn put_value(
     cache::place(held, origins, valid, bytes, last, line, frame, content);
 }
 
-// WRITE past 5 and 6: to the line's page in CMF, which is the one that its block has there or the next of the ring.
-pub fn write_admitted(
-    mut registers: Registers,
+// WRITE past its tests, the short way, to a line that an entry of the cache holds with CMF as its frame: it is written there already, and its
+// page is the table's. A number past the pool, which no well-formed table names, counts as the last page.
+fn edit_line(
+    registers: Registers,
+    bytes: &mut [u8; 512],
+    last: &mut [u8; 16],
+    pool: &mut [u8],
+    groups: &mut [u32],
+    table: &[u16],
+    history: &[u16],
+    width: u32,
+    address: u32,
+    value: u32,
+    entry: u32,
+)
+    requires { ⌜ AsksEdit registers width address entry (now pool) (now groups) (now table) (now history) ⌝ }
+    ensures bytes { λ _. ⌜ now (bytes .exit) ≡ pasteLine (now (bytes .entry)) (16 * entry) (edit width (offsetOf address) value (bytesIn (now (bytes .entry)) entry)) ⌝ }
+    ensures last { λ _. ⌜ now (last .exit) ≡ ListN.set (now (last .entry)) (entry / 2) (entry % 2) ⌝ }
+    ensures page { λ _. ⌜ now (pool .exit) ≡ withPageLine (now (pool .entry)) (namedPage registers (now (table .entry)) (lineOf address)) (lineOf address % 8)
+        (edit width (offsetOf address) value (pageLine (now (pool .entry)) (namedPage registers (now (table .entry)) (lineOf address)) (lineOf address % 8))) ⌝ }
+    ensures tag { λ _. ⌜ now (groups .exit) ≡ renewed (writtenAt (shapeAt registers) (now (groups .entry)) (now (history .entry))) (registers .tag % 256) (lineOf address) (registers .cmf) ⌝ }
+{
+    let line = address / 16;
+    let offset = address % 16;
+    let shape = storage::shape(registers);
+    let named = pages::table::page_at(table, shape, registers.cmf, line / 8);
+    let page = numbers::min(named, registers.pages - 1);
+    pages::lines::edit_page_line(pool, page, line % 8, width, offset, value);
+    cache::edit_at(bytes, entry, width, offset, value);
+    written::renew(
+        groups,
+        history,
+        shape,
+        registers.tag % 256,
+        line,
+        registers.cmf,
+    );
+    cache::recall(last, entry);
+}
+
+// WRITE past its tests, the long way: to the line's page in CMF, which is the one that its block has there or the next of the ring.
+fn write_line(
+    registers: Registers,
     held: &mut [u32; 32],
     origins: &mut [u16; 32],
     valid: &mut [u8; 32],
@@ -105,17 +153,13 @@ pub fn write_admitted(
     width: u32,
     address: u32,
     value: u32,
-) -> Step
-    requires { ⌜ admitted (registersOf registers) (lengthsIn (memoryOf (now archive) (now pool) (now groups) (now table) (now owners) (now history))) 0 ≡ 0 ⌝ }
+) -> Given
+    requires { ⌜ (admitted (registersOf registers) (lengthsIn (memoryOf (now archive) (now pool) (now groups) (now table) (now owners) (now history))) 0 ≡ 0) × (writeRefusal (settingsAt registers) width address value 0 ≡ 0) ⌝ }
     ensures { λ r. ⌜ Writes
         (storageOf (stateOf registers (cacheOf (now (held .entry)) (now (origins .entry)) (now (valid .entry)) (now (bytes .entry)) (now (last .entry)))) (now (archive .entry)) (now (pool .entry)) (now (groups .entry)) (now (table .entry)) (now (owners .entry)) (now (history .entry)))
         width address value (r .refusal)
-        (storageOf (stateOf (r .registers) (cacheOf (now (held .exit)) (now (origins .exit)) (now (valid .exit)) (now (bytes .exit)) (now (last .exit)))) (now (archive .entry)) (now (pool .exit)) (now (groups .exit)) (now (table .exit)) (now (owners .exit)) (now (history .entry))) ⌝ }
+        (storageOf (stateOf (givenRegisters registers (r .used)) (cacheOf (now (held .exit)) (now (origins .exit)) (now (valid .exit)) (now (bytes .exit)) (now (last .exit)))) (now (archive .entry)) (now (pool .exit)) (now (groups .exit)) (now (table .exit)) (now (owners .exit)) (now (history .entry))) ⌝ }
 {
-    let refusal = storage::write_refusal(registers, width, address, value);
-    if refusal != 0 {
-        return Step { registers, refusal };
-    }
     let live = frames::live(registers.frames, registers.omf, registers.cmf);
     let ring = storage::ring(registers);
     let choice = versions::page_for(table, owners, ring, registers.cmf, address / 16);
@@ -141,16 +185,86 @@ pub fn write_admitted(
                 live,
                 page,
             );
-            registers.used = choice.used;
-            Step {
-                registers,
+            Given {
+                used: choice.used,
                 refusal: 0,
             }
         }
-        Found::Nothing => Step {
-            registers,
+        Found::Nothing => Given {
+            used: registers.used,
             refusal: 13,
         },
+    }
+}
+
+// WRITE past 5 and 6.
+pub fn write_admitted(
+    registers: Registers,
+    held: &mut [u32; 32],
+    origins: &mut [u16; 32],
+    valid: &mut [u8; 32],
+    bytes: &mut [u8; 512],
+    last: &mut [u8; 16],
+    archive: &[u8],
+    pool: &mut [u8],
+    groups: &mut [u32],
+    table: &mut [u16],
+    owners: &mut [u32],
+    history: &[u16],
+    width: u32,
+    address: u32,
+    value: u32,
+) -> Given
+    requires { ⌜ admitted (registersOf registers) (lengthsIn (memoryOf (now archive) (now pool) (now groups) (now table) (now owners) (now history))) 0 ≡ 0 ⌝ }
+    ensures { λ r. ⌜ Writes
+        (storageOf (stateOf registers (cacheOf (now (held .entry)) (now (origins .entry)) (now (valid .entry)) (now (bytes .entry)) (now (last .entry)))) (now (archive .entry)) (now (pool .entry)) (now (groups .entry)) (now (table .entry)) (now (owners .entry)) (now (history .entry)))
+        width address value (r .refusal)
+        (storageOf (stateOf (givenRegisters registers (r .used)) (cacheOf (now (held .exit)) (now (origins .exit)) (now (valid .exit)) (now (bytes .exit)) (now (last .exit)))) (now (archive .entry)) (now (pool .exit)) (now (groups .exit)) (now (table .exit)) (now (owners .exit)) (now (history .entry))) ⌝ }
+{
+    let refusal = storage::write_refusal(registers, width, address, value);
+    if refusal != 0 {
+        return Given {
+            used: registers.used,
+            refusal,
+        };
+    }
+    match cache::find_of(held, origins, valid, address / 16, registers.cmf) {
+        Entry::Hit(entry) => {
+            edit_line(
+                registers,
+                bytes,
+                last,
+                pool,
+                groups,
+                table,
+                history,
+                width,
+                address,
+                value,
+                entry,
+            );
+            Given {
+                used: registers.used,
+                refusal: 0,
+            }
+        }
+        Entry::Miss => write_line(
+            registers,
+            held,
+            origins,
+            valid,
+            bytes,
+            last,
+            archive,
+            pool,
+            groups,
+            table,
+            owners,
+            history,
+            width,
+            address,
+            value,
+        ),
     }
 }
 
@@ -171,16 +285,19 @@ pub fn write(
     width: u32,
     address: u32,
     value: u32,
-) -> Step
+) -> Given
     ensures { λ r. ⌜ Writes
         (storageOf (stateOf registers (cacheOf (now (held .entry)) (now (origins .entry)) (now (valid .entry)) (now (bytes .entry)) (now (last .entry)))) (now (archive .entry)) (now (pool .entry)) (now (groups .entry)) (now (table .entry)) (now (owners .entry)) (now (history .entry)))
         width address value (r .refusal)
-        (storageOf (stateOf (r .registers) (cacheOf (now (held .exit)) (now (origins .exit)) (now (valid .exit)) (now (bytes .exit)) (now (last .exit)))) (now (archive .entry)) (now (pool .exit)) (now (groups .exit)) (now (table .exit)) (now (owners .exit)) (now (history .entry))) ⌝ }
+        (storageOf (stateOf (givenRegisters registers (r .used)) (cacheOf (now (held .exit)) (now (origins .exit)) (now (valid .exit)) (now (bytes .exit)) (now (last .exit)))) (now (archive .entry)) (now (pool .exit)) (now (groups .exit)) (now (table .exit)) (now (owners .exit)) (now (history .entry))) ⌝ }
 {
     let lengths = storage::measure(archive, pool, groups, table, owners, history);
     let refusal = storage::admit(registers, lengths);
     if refusal != 0 {
-        return Step { registers, refusal };
+        return Given {
+            used: registers.used,
+            refusal,
+        };
     }
     write_admitted(
         registers,
@@ -217,7 +334,7 @@ fn load(
     live: u32,
     line: u32,
 ) -> Version
-    requires { ⌜ AsksNewest (writtenAt (shapeAt registers) (now groups) (now history)) (registers .pages) live line (now archive) (now pool) (now table) ⌝ }
+    requires { ⌜ (AsksNewest (writtenAt (shapeAt registers) (now groups) (now history)) (registers .pages) live line (now archive) (now pool) (now table)) × (hitIn (now held) (now valid) line ≡ Miss) ⌝ }
     ensures found { λ r. ⌜ r ≡ newestOf (writtenAt (shapeAt registers) (now (groups .entry)) (now (history .entry))) (registers .pages) live (now (archive .entry)) (now (pool .entry)) (now (table .entry)) line ⌝ }
     ensures held { λ r. ⌜ (cacheOf (now (held .exit)) (now (origins .exit)) (now (valid .exit)) (now (bytes .exit)) (now (last .exit))) ≡ placedIn (cacheOf (now (held .entry)) (now (origins .entry)) (now (valid .entry)) (now (bytes .entry)) (now (last .entry))) line (r .frame) (r .content) ⌝ }
 {
@@ -233,7 +350,7 @@ fn load(
         line,
     );
     let content = version.content;
-    cache::place(
+    cache::fill(
         held,
         origins,
         valid,
@@ -280,11 +397,10 @@ pub fn read(
     let line = address / 16;
     match cache::find(held, valid, line) {
         Entry::Hit(entry) => {
-            let cached = cache::line_at(bytes, entry);
             cache::recall(last, entry);
             Reading {
                 refusal: 0,
-                value: pages::lines::value_of(cached, width, address % 16),
+                value: cache::value_at(bytes, entry, width, address % 16),
                 origin: Origin::Cache,
             }
         }
@@ -316,8 +432,31 @@ pub fn read(
     }
 }
 
-// LINE: lends the part of the pool or of the archive that holds the line's most recent version; refused, an empty part of the archive. It
-// does not look at the cache, whatever that holds.
+// LINE past its tests: lends the part of the pool or of the archive that holds the line's most recent version. It does not look at the cache,
+// whatever that holds.
+pub fn line_admitted<'a>(
+    registers: Registers,
+    archive: &'a [u8],
+    pool: &'a [u8],
+    groups: &[u32],
+    table: &[u16],
+    owners: &[u32],
+    history: &[u16],
+    line: u32,
+) -> &'a [u8]
+    requires { ⌜ admitted (registersOf registers) (lengthsIn (memoryOf (now archive) (now pool) (now groups) (now table) (now owners) (now history))) (lineRefusal (settingsAt registers) line) ≡ 0 ⌝ }
+    ensures { λ r. ⌜ Looks (LINE line) registers (memoryOf (now (archive .entry)) (now (pool .entry)) (now (groups .entry)) (now (table .entry)) (now (owners .entry)) (now (history .entry))) (lending (now r)) ⌝ }
+{
+    let live = frames::live(registers.frames, registers.omf, registers.cmf);
+    let shape = storage::shape(registers);
+    let found = written::search(groups, history, shape, line, live - 1);
+    match versions::locate(table, shape, registers.pages, line, found) {
+        Spot::Page(page) => pages::lines::page_line(pool, page, line % 8),
+        Spot::Archive => pages::lines::archive_line(archive, line),
+    }
+}
+
+// LINE; refused, it lends an empty part of the archive.
 pub fn line<'a>(
     registers: Registers,
     archive: &'a [u8],
@@ -334,13 +473,16 @@ pub fn line<'a>(
     if storage::admit_line(registers, lengths, line) != 0 {
         return &archive[0..0];
     }
-    let live = frames::live(registers.frames, registers.omf, registers.cmf);
-    let shape = storage::shape(registers);
-    let found = written::search(groups, history, shape, line, live - 1);
-    match versions::locate(table, shape, registers.pages, line, found) {
-        Spot::Page(page) => pages::lines::page_line(pool, page, line % 8),
-        Spot::Archive => pages::lines::archive_line(archive, line),
-    }
+    line_admitted(
+        registers,
+        archive,
+        pool,
+        groups,
+        table,
+        owners,
+        history,
+        line,
+    )
 }
 
 // LINE's companion: the refusal of `line` on the same arguments, or 0.

@@ -16,9 +16,9 @@ use Rattle.rules.proofs.Tests.{both-true}
 use Rattle.cache.specs.declared.Cache.{Cache}
 use Rattle.cache.specs.declared.Entry.{Entry}
 use Rattle.cache.specs.declared.Entry.the-variants.{Hit, Miss}
-use Rattle.cache.specs.Entries.{Sized, heldLine, isValid, home, isAt, found, isHit, wayTaken, entryTaken, FoundAt, hitIn, isAtIn, isValidIn, wayIn}
+use Rattle.cache.specs.Entries.{Sized, heldLine, isValid, home, isAt, found, isHit, wayTaken, entryTaken, FoundAt, hitIn, ofFrame, hitOf, isAtIn, isValidIn, freeWay, wayIn}
 use Rattle.cache.specs.Shown.{lineIn, wayOf, shown}
-use Rattle.cache.proofs.Returns.{at-line, found-first, found-second, found-none, taken-first, taken-second}
+use Rattle.cache.proofs.Returns.{hit-some, at-line, found-first, found-second, found-none, taken-first, taken-second}
 
 -- only the 32 entries are valid
 pub valid-below : (c : Cache) (e : ℕ) → Sized c → isValid c e ≡ true → e < 32
@@ -64,7 +64,7 @@ cond-below false x y h k = k
 
 module _ (c : Cache) (l : ℕ) where
   pub way-below : wayTaken c l < 2
-  unfolding wayIn
+  unfolding wayIn freeWay
   way-below =
       cond-below (isAt c (home l) l) 0 _ (omega arith)
       (cond-below (isAt c (home l + 1) l) 1 _ (omega arith)
@@ -89,7 +89,7 @@ module _ (c : Cache) (l : ℕ) where
 
   -- and takes the way that Figure 3's does
   pub way-shown : wayFor l (shown c (setOf l)) ≡ wayOf (wayTaken c l)
-  unfolding wayFor shown wayIn wayOf otherWay
+  unfolding wayFor shown wayIn freeWay wayOf otherWay
   way-shown =
       rw (in-at c (home l) l, in-at c (home l + 1) l, free-at c (home l), free-at c (home l + 1))
       (go (isAt c (home l) l) (isAt c (home l + 1) l) (not (isValid c (home l))) (not (isValid c (home l + 1))) (eqb (getD (c .last) (setOf l) 0) 0))
@@ -167,3 +167,22 @@ module _ (c : Cache) (l : ℕ) where
 pub found-below : (lines valid : List ℕ) (l : ℕ) (r : Entry) (e : ℕ) → r ≡ hitIn lines valid l → r ≡ Hit e → e < 32
 found-below lines valid l r e d h =
     found-at (record { held = lines; origins = []; valid = valid; bytes = []; last = [] }) l e (sym d ∙ h) .below
+
+-- An entry with a frame is one that holds the line, and has the frame.
+pub of-hit : (lines origins valid : List ℕ) (l f e : ℕ) → hitOf lines origins valid l f ≡ Hit e → (hitIn lines valid l ≡ Hit e) × (getD origins e 0 ≡ f)
+unfolding ofFrame
+of-hit lines origins valid l f e h = go (hitIn lines valid l) refl h
+  where
+    own : (n : ℕ) (t : Bool) → eqb (getD origins n 0) f ≡ t → cond t (Hit n) Miss ≡ Hit e → (Hit n ≡ Hit e) × (getD origins e 0 ≡ f)
+    own n true p k = let d : n ≡ e = cc k in (k, ap (λ (m : ℕ). getD origins m 0) (sym d) ∙ eqb-true (getD origins n 0) f p)
+    own n false p k = absurd (hit-some (sym k))
+
+    go : (r : Entry) → hitIn lines valid l ≡ r → ofFrame origins f r ≡ Hit e → (hitIn lines valid l ≡ Hit e) × (getD origins e 0 ≡ f)
+    go (Hit n) d k = let o = own n (eqb (getD origins n 0) f) refl k in (d ∙ o .0, o .1)
+    go Miss d k = absurd (hit-some (sym k))
+
+-- and may be written, in the form in which a caller of `find_of` has it.
+pub found-of : (lines origins valid : List ℕ) (l f : ℕ) (r : Entry) (e : ℕ) → r ≡ hitOf lines origins valid l f → r ≡ Hit e → e < 32
+found-of lines origins valid l f r e d h =
+    let own : hitIn lines valid l ≡ Hit e = of-hit lines origins valid l f e (sym d ∙ h) .0 in
+    found-below lines valid l (hitIn lines valid l) e refl own

@@ -1,20 +1,24 @@
 -- What each return of the cache's functions rests on, in the form in which the code has it. Assumes nothing.
-use mathlib.Core.Path.{_≡_, sym, _∙_, ap, ap₂}
-use mathlib.Core.Bool.{Bool, true, false, not, _&&_, and-false}
+use mathlib.Core.Path.{_≡_, refl, sym, _∙_, ap, ap₂}
+use mathlib.Core.Logic.{_≢_}
+use mathlib.Core.Bool.{Bool, true, false, cond, not, _&&_, and-false, false≢true}
 use mathlib.Core.List.{List}
 use Prim.Native.Nat.{ℕ, _+_, _*_, _≤_, _<_}
 use native.Mathlib.Omega.{arith}
 use borrow.Author.Tests.{eq-eqb, ne-eqb, lt-ltb, le-ltb, not-true, not-false}
 use lib.Dec.{eqb, ltb}
 use lib.ListN.{length, getD, set}
+use Rattle.rules.specs.Line.{valueAt, edit}
 use Rattle.rules.specs.Figure3.{setOf}
 use Rattle.frames.specs.Circle.{indexOf}
 use Rattle.cache.specs.declared.Cache.{Cache}
+use Rattle.cache.specs.declared.Entry.{Entry}
 use Rattle.cache.specs.declared.Entry.the-variants.{Hit, Miss}
-use Rattle.cache.specs.Entries.{home, wayTaken, hitIn, isAtIn, isValidIn, wayIn}
+use Rattle.cache.specs.Entries.{home, wayTaken, hitIn, ofFrame, hitOf, isHit, bytesIn, isAtIn, isValidIn, freeWay, wayIn}
 use Rattle.lists.specs.Lists.{rewrite}
-use Rattle.lists.specs.Lines.{pasteLine}
-use Rattle.cache.specs.Steps.{archiveFrame, placedIn, isBelow, isDropped, flagAfter, flagsAfter, frameAfter, framesAfter}
+use Rattle.lists.specs.Lines.{pasteLine, AsksBytes}
+use Rattle.lists.proofs.Values.{line-value, line-edit}
+use Rattle.cache.specs.Steps.{archiveFrame, putIn, placedIn, isBelow, isDropped, flagAfter, flagsAfter, frameAfter, framesAfter}
 
 module _ (valid : List ℕ) (e : ℕ) where
   pub valid-one : getD valid e 0 ≡ 1 → true ≡ isValidIn valid e
@@ -37,6 +41,11 @@ module _ (lines valid : List ℕ) (e : ℕ) where
   pub at-other : (l : ℕ) → (getD lines e 0 ≡ l → ⊥) → false ≡ isAtIn lines valid e l
   unfolding isAtIn
   at-other l h = sym (ap (λ (z : Bool). isValidIn valid e && z) (ne-eqb l (getD lines e 0) (λ d. h (sym d))) ∙ and-false (isValidIn valid e))
+
+-- a hit is no miss
+pub hit-some : {e : ℕ} → Hit e ≡ Miss → ⊥
+unfolding isHit
+hit-some e = false≢true (sym (ap isHit e))
 
 module _ (lines valid : List ℕ) (l : ℕ) (b : Bool) (first : b ≡ isAtIn lines valid (home l) l) where
   pub found-first : b ≡ true → Hit (home l) ≡ hitIn lines valid l
@@ -62,25 +71,38 @@ module _ (lines valid last : List ℕ) (l : ℕ) (b : Bool) (first : b ≡ isAtI
     unfolding wayIn
     taken-second t = rw (sym first ∙ f, sym second ∙ t)
 
-    module _ (g : d ≡ false) (v : Bool) (valid0 : v ≡ isValidIn valid (home l)) where
-      pub taken-free0 : not v ≡ true → 0 ≡ wayIn lines valid last l
-      unfolding wayIn
-      taken-free0 n = rw (sym first ∙ f, sym second ∙ g, sym valid0 ∙ not-true v n)
+    pub taken-free : d ≡ false → (r : ℕ) → (r ≡ freeWay valid last (setOf l)) × (r < 2) → r ≡ wayIn lines valid last l
+    unfolding wayIn
+    taken-free g r e = rw (sym first ∙ f, sym second ∙ g) (e .0)
 
-      module _ (p : not v ≡ false) (w : Bool) (valid1 : w ≡ isValidIn valid (home l + 1)) where
-        pub taken-free1 : not w ≡ true → 1 ≡ wayIn lines valid last l
-        unfolding wayIn
-        taken-free1 n = rw (sym first ∙ f, sym second ∙ g, sym valid0 ∙ not-false v p, sym valid1 ∙ not-true w n)
+-- A line that is not held takes the free way.
+pub miss-way : (lines valid last : List ℕ) (l : ℕ) → hitIn lines valid l ≡ Miss → freeWay valid last (setOf l) ≡ wayIn lines valid last l
+unfolding hitIn wayIn
+miss-way lines valid last l h = go (isAtIn lines valid (home l) l) (isAtIn lines valid (home l + 1) l) h
+  where
+    go : (a b : Bool) → cond a (Hit (home l)) (cond b (Hit (home l + 1)) Miss) ≡ Miss
+        → freeWay valid last (setOf l) ≡ cond a 0 (cond b 1 (freeWay valid last (setOf l)))
+    go true b e = absurd (hit-some e)
+    go false true e = absurd (hit-some e)
+    go false false e = refl
 
-        pub taken-older1 : not w ≡ false → getD last (setOf l) 0 ≡ 0 → 1 ≡ wayIn lines valid last l
-        unfolding wayIn
-        taken-older1 q n =
-            rw (sym first ∙ f, sym second ∙ g, sym valid0 ∙ not-false v p, sym valid1 ∙ not-false w q, eq-eqb (getD last (setOf l) 0) 0 n)
+module _ (valid last : List ℕ) (s : ℕ) (v : Bool) (valid0 : v ≡ isValidIn valid (2 * s)) where
+  pub free-first : not v ≡ true → 0 ≡ freeWay valid last s
+  unfolding freeWay
+  free-first n = rw (sym valid0 ∙ not-true v n)
 
-        pub taken-older0 : not w ≡ false → (getD last (setOf l) 0 ≡ 0 → ⊥) → 0 ≡ wayIn lines valid last l
-        unfolding wayIn
-        taken-older0 q n =
-            rw (sym first ∙ f, sym second ∙ g, sym valid0 ∙ not-false v p, sym valid1 ∙ not-false w q, ne-eqb (getD last (setOf l) 0) 0 n)
+  module _ (p : not v ≡ false) (w : Bool) (valid1 : w ≡ isValidIn valid (2 * s + 1)) where
+    pub free-second : not w ≡ true → 1 ≡ freeWay valid last s
+    unfolding freeWay
+    free-second n = rw (sym valid0 ∙ not-false v p, sym valid1 ∙ not-true w n)
+
+    pub free-older1 : not w ≡ false → getD last s 0 ≡ 0 → 1 ≡ freeWay valid last s
+    unfolding freeWay
+    free-older1 q n = rw (sym valid0 ∙ not-false v p, sym valid1 ∙ not-false w q, eq-eqb (getD last s 0) 0 n)
+
+    pub free-older0 : not w ≡ false → (getD last s 0 ≡ 0 → ⊥) → 0 ≡ freeWay valid last s
+    unfolding freeWay
+    free-older0 q n = rw (sym valid0 ∙ not-false v p, sym valid1 ∙ not-false w q, ne-eqb (getD last s 0) 0 n)
 
 module _ (frames omf n frame : ℕ) where
   pub off-circle : frames ≤ frame → false ≡ isBelow frames omf n frame
@@ -122,13 +144,51 @@ module _ (frames omf n frame : ℕ) where
 pub entry-room : (bytes : List ℕ) (entry : ℕ) → length bytes ≡ 512 → entry < 32 → 16 * entry + 16 ≤ length bytes
 entry-room bytes entry long h = omega arith
 
--- the arrays after a use of a line
-pub placed-done : (c : Cache) (line frame way : ℕ) (content lines frames valid bytes last : List ℕ) → (way ≡ wayTaken c line) × (way < 2)
+-- a value read and written there
+module _ (bytes : List ℕ) (entry w o : ℕ) (asks : (entry < 32) × (AsksBytes w o)) (long : length bytes ≡ 512) where
+  pub entry-value : (r : ℕ) → r ≡ valueAt w (16 * entry + o) bytes → r ≡ valueAt w o (bytesIn bytes entry)
+  unfolding bytesIn
+  entry-value r e = e ∙ line-value w o (16 * entry) bytes (asks .1) (entry-room bytes entry long (asks .0))
+
+  pub entry-edit : (v : ℕ) (after : List ℕ) → after ≡ edit w (16 * entry + o) v bytes → after ≡ pasteLine bytes (16 * entry) (edit w o v (bytesIn bytes entry))
+  unfolding bytesIn
+  entry-edit v after e = e ∙ line-edit w o (16 * entry) bytes (asks .1) v (entry-room bytes entry long (asks .0))
+
+-- ---- the entry of a line with a frame, in the form in which the code has it
+module _ (lines origins valid : List ℕ) (l f : ℕ) (r : Entry) (is : r ≡ hitIn lines valid l) where
+  pub of-frame : (e g : ℕ) → r ≡ Hit e → (n : ℕ) → n ≡ getD origins e 0 → (g ≡ n) × (g < 65536) → g ≡ f → Hit e ≡ hitOf lines origins valid l f
+  unfolding ofFrame
+  of-frame e g h n at wide same =
+      sym (ap (ofFrame origins f) (sym is ∙ h)
+      ∙ ap (λ (b : Bool). cond b (Hit e) Miss) (eq-eqb (getD origins e 0) f (sym at ∙ (sym (wide .0) ∙ same))))
+
+  pub of-other : (e g : ℕ) → r ≡ Hit e → (n : ℕ) → n ≡ getD origins e 0 → (g ≡ n) × (g < 65536) → g ≢ f → Miss ≡ hitOf lines origins valid l f
+  unfolding ofFrame
+  of-other e g h n at wide other =
+      sym (ap (ofFrame origins f) (sym is ∙ h)
+      ∙ ap (λ (b : Bool). cond b (Hit e) Miss) (ne-eqb (getD origins e 0) f (λ d. other (wide .0 ∙ (at ∙ d)))))
+
+  pub of-none : r ≡ Miss → Miss ≡ hitOf lines origins valid l f
+  unfolding ofFrame
+  of-none h = sym (ap (ofFrame origins f) (sym is ∙ h))
+
+-- the arrays after a line is put in a way
+pub put-done : (c : Cache) (line way frame : ℕ) (content lines frames valid bytes last : List ℕ)
     → lines ≡ set (c .held) (home line + way) line → frames ≡ set (c .origins) (home line + way) frame → valid ≡ set (c .valid) (home line + way) 1
     → bytes ≡ pasteLine (c .bytes) (16 * (home line + way)) content → last ≡ set (c .last) (setOf line) way
-    → record { held = lines; origins = frames; valid = valid; bytes = bytes; last = last } ≡ placedIn c line frame content
-unfolding placedIn
-placed-done c line frame way content lines frames valid bytes last w el ef ev eb ea = cc (w .0, el, ef, ev, eb, ea)
+    → record { held = lines; origins = frames; valid = valid; bytes = bytes; last = last } ≡ putIn c line way frame content
+unfolding putIn
+put-done c line way frame content lines frames valid bytes last el ef ev eb ea = cc (el, ef, ev, eb, ea)
+
+-- and in the way that a use takes
+pub put-taken : (c : Cache) (line way frame : ℕ) (content : List ℕ) (after : Cache) → (way ≡ wayTaken c line) × (way < 2) → after ≡ putIn c line way frame content
+    → after ≡ placedIn c line frame content
+put-taken c line way frame content after w e = e ∙ ap (λ (n : ℕ). putIn c line n frame content) (w .0)
+
+pub put-free : (c : Cache) (line way frame : ℕ) (content : List ℕ) (after : Cache) → hitIn (c .held) (c .valid) line ≡ Miss
+    → (way ≡ freeWay (c .valid) (c .last) (setOf line)) × (way < 2) → after ≡ putIn c line way frame content → after ≡ placedIn c line frame content
+put-free c line way frame content after h w e =
+    put-taken c line way frame content after (w .0 ∙ miss-way (c .held) (c .valid) (c .last) line h, w .1) e
 
 -- the loops' ends
 module _ (frames omf n i : ℕ) (before now : List ℕ) (most : i ≤ 32) (least : 32 ≤ i) where

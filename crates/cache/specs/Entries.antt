@@ -61,20 +61,29 @@ hitIn lines valid l =
 abbrev pub found : Cache → ℕ → Entry
 found c l = hitIn (c .held) (c .valid) l
 
+-- The same where the entry has this frame.
+unfoldable pub ofFrame : (origins : List ℕ) → (frame : ℕ) → Entry → Entry
+ofFrame origins f (Hit e) = cond (eqb (getD origins e 0) f) (Hit e) Miss
+ofFrame origins f Miss = Miss
+
+abbrev pub hitOf : (lines origins valid : List ℕ) → (line frame : ℕ) → Entry
+hitOf lines origins valid l f = ofFrame origins f (hitIn lines valid l)
+
 -- Whether there is one.
 unfoldable pub isHit : Entry → Bool
 isHit (Hit e) = true
 isHit Miss = false
 
--- The way that a use of a line takes: its own at a hit; "A miss, of a read or a write, takes way 0 if it is invalid, else way
--- 1 if that is invalid, else the less recently used way".
+-- The way of a set that a line takes which is in none: "A miss, of a read or a write, takes way 0 if it is invalid, else way 1 if that is
+-- invalid, else the less recently used way".
+unfoldable pub freeWay : (valid last : List ℕ) → (set : ℕ) → ℕ
+freeWay valid last s =
+    cond (not (isValidIn valid (2 * s))) 0 (cond (not (isValidIn valid (2 * s + 1))) 1 (cond (eqb (getD last s 0) 0) 1 0))
+
+-- The way that a use of a line takes: its own at a hit, and else that one.
 unfoldable pub wayIn : (lines valid last : List ℕ) → ℕ → ℕ
 wayIn lines valid last l =
-    cond (isAtIn lines valid (home l) l) 0
-    (cond (isAtIn lines valid (home l + 1) l) 1
-    (cond (not (isValidIn valid (home l))) 0
-    (cond (not (isValidIn valid (home l + 1))) 1
-    (cond (eqb (getD last (setOf l) 0) 0) 1 0))))
+    cond (isAtIn lines valid (home l) l) 0 (cond (isAtIn lines valid (home l + 1) l) 1 (freeWay valid last (setOf l)))
 
 abbrev pub wayTaken : Cache → ℕ → ℕ
 wayTaken c l = wayIn (c .held) (c .valid) (c .last) l

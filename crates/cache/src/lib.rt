@@ -5,10 +5,12 @@ ghost use Prim.Native.Nat.{_*_, _/_, _%_, _<_};
 ghost use lib.ListN;
 ghost use lib.ListN.{length, getD};
 ghost use Rattle.rules.specs.Figure3.{emptyCache};
+ghost use Rattle.rules.specs.Line.{valueAt, edit};
 ghost use Rattle.frames.specs.Circle.{Turn};
-ghost use Rattle.lists.specs.Lines.{pasteLine};
-ghost use Rattle.cache.specs.Entries.{cacheOf, isValidIn, bytesIn, heldBytes, isAtIn, hitIn, wayIn};
-ghost use Rattle.cache.specs.Steps.{emptied, placedIn, isBelow, flagAfter, flagsAfter, frameAfter, framesAfter};
+ghost use Rattle.lists.specs.Lines.{pasteLine, AsksBytes};
+ghost use Rattle.cache.specs.declared.Entry.the-variants.{Miss};
+ghost use Rattle.cache.specs.Entries.{cacheOf, isValidIn, bytesIn, heldBytes, isAtIn, hitIn, hitOf, freeWay, wayIn};
+ghost use Rattle.cache.specs.Steps.{emptied, putIn, placedIn, isBelow, flagAfter, flagsAfter, frameAfter, framesAfter};
 ghost use Rattle.cache.specs.Shown.{shown};
 
 // The entry of a set's way is 2 * set + way.
@@ -94,6 +96,46 @@ pub fn find<'a>(held: &'a [u32; 32], valid: &'a [u8; 32], line: u32) -> Entry
     Entry::Miss
 }
 
+// The same, if it holds the line with this frame.
+pub fn find_of<'a>(
+    held: &'a [u32; 32],
+    origins: &'a [u16; 32],
+    valid: &'a [u8; 32],
+    line: u32,
+    frame: u32,
+) -> Entry
+    ensures { λ r. ⌜ r ≡ hitOf (now (held .entry)) (now (origins .entry)) (now (valid .entry)) line frame ⌝ }
+{
+    match find(held, valid, line) {
+        Entry::Hit(entry) => {
+            if numbers::widen_u16(frame_of(origins, entry)) == frame {
+                return Entry::Hit(entry);
+            }
+            Entry::Miss
+        }
+        Entry::Miss => Entry::Miss,
+    }
+}
+
+// The way of a set that a line takes which is in none.
+fn free_way<'a>(valid: &'a [u8; 32], last: &'a [u8; 16], set: u32) -> u32
+    requires { ⌜ set < 16 ⌝ }
+    ensures { λ r. ⌜ (r ≡ freeWay (now (valid .entry)) (now (last .entry)) set) × (r < 2) ⌝ }
+{
+    let first = 2 * set;
+    if !is_valid(valid, first) {
+        return 0;
+    }
+    if !is_valid(valid, first + 1) {
+        return 1;
+    }
+    let at = set as usize;
+    if last[at] == 0 {
+        return 1;
+    }
+    0
+}
+
 // The way that a use of a line takes, hit or miss.
 pub fn way_for<'a>(held: &'a [u32; 32], valid: &'a [u8; 32], last: &'a [u8; 16], line: u32) -> u32
     ensures { λ r. ⌜ (r ≡ wayIn (now (held .entry)) (now (valid .entry)) (now (last .entry)) line) × (r < 2) ⌝ }
@@ -107,17 +149,7 @@ pub fn way_for<'a>(held: &'a [u32; 32], valid: &'a [u8; 32], last: &'a [u8; 16],
     if is_at(held, valid, second, line) {
         return 1;
     }
-    if !is_valid(valid, first) {
-        return 0;
-    }
-    if !is_valid(valid, second) {
-        return 1;
-    }
-    let at = set as usize;
-    if last[at] == 0 {
-        return 1;
-    }
-    0
+    free_way(valid, last, set)
 }
 
 // That the bytes are 512 is in their type, and code that has them behind a reference learns it here. The copy is never read, so that
@@ -136,7 +168,27 @@ pub fn line_at(bytes: &[u8; 512], entry: u32) -> [u8; 16]
     lists::read_line(bytes, 16 * (entry as usize))
 }
 
-// The same of a whole cache.
+// The value of so many bytes of an entry, from an offset on.
+pub fn value_at(bytes: &[u8; 512], entry: u32, width: u32, offset: u32) -> u32
+    requires { ⌜ (entry < 32) × (AsksBytes width offset) ⌝ }
+    ensures { λ r. ⌜ r ≡ valueAt width offset (bytesIn (now (bytes .entry)) entry) ⌝ }
+{
+    let all = *bytes;
+    has_all(all);
+    lists::read_value(bytes, (16 * entry + offset) as usize, width)
+}
+
+// Writes a value there.
+pub fn edit_at(bytes: &mut [u8; 512], entry: u32, width: u32, offset: u32, value: u32)
+    requires { ⌜ (entry < 32) × (AsksBytes width offset) ⌝ }
+    ensures { λ _. ⌜ now (bytes .exit) ≡ pasteLine (now (bytes .entry)) (16 * entry) (edit width offset value (bytesIn (now (bytes .entry)) entry)) ⌝ }
+{
+    let all = *bytes;
+    has_all(all);
+    lists::write_value(bytes, (16 * entry + offset) as usize, width, value);
+}
+
+// The 16 bytes of an entry of a whole cache.
 pub fn bytes_of(cache: Cache, entry: u32) -> [u8; 16]
     requires { ⌜ entry < 32 ⌝ }
     ensures { λ r. ⌜ r ≡ heldBytes cache entry ⌝ }
@@ -199,6 +251,31 @@ fn set_last(last: &mut [u8; 16], set: u32, way: u32)
     last[at] = way as u8;
 }
 
+// Puts a line in a way of its set, with this frame and these bytes; the way was used last.
+fn put_in(
+    held: &mut [u32; 32],
+    origins: &mut [u16; 32],
+    valid: &mut [u8; 32],
+    bytes: &mut [u8; 512],
+    last: &mut [u8; 16],
+    line: u32,
+    way: u32,
+    frame: u16,
+    content: [u8; 16],
+)
+    requires { ⌜ way < 2 ⌝ }
+    ensures { λ _. ⌜ cacheOf (now (held .exit)) (now (origins .exit)) (now (valid .exit)) (now (bytes .exit)) (now (last .exit))
+        ≡ putIn (cacheOf (now (held .entry)) (now (origins .entry)) (now (valid .entry)) (now (bytes .entry)) (now (last .entry))) line way frame content ⌝ }
+{
+    let set = line % 16;
+    let entry = 2 * set + way;
+    set_line(held, entry, line);
+    set_frame(origins, entry, frame);
+    set_valid(valid, entry);
+    set_bytes(bytes, entry, content);
+    set_last(last, set, way);
+}
+
 // A use of a line, by a read or a write: the way taken has it with this frame and these bytes and was used last.
 pub fn place(
     held: &mut [u32; 32],
@@ -214,13 +291,26 @@ pub fn place(
         ≡ placedIn (cacheOf (now (held .entry)) (now (origins .entry)) (now (valid .entry)) (now (bytes .entry)) (now (last .entry))) line frame content ⌝ }
 {
     let way = way_for(held, valid, last, line);
-    let set = line % 16;
-    let entry = 2 * set + way;
-    set_line(held, entry, line);
-    set_frame(origins, entry, frame);
-    set_valid(valid, entry);
-    set_bytes(bytes, entry, content);
-    set_last(last, set, way);
+    put_in(held, origins, valid, bytes, last, line, way, frame, content);
+}
+
+// The same of a line that the cache is known not to hold: its set is not looked up again.
+pub fn fill(
+    held: &mut [u32; 32],
+    origins: &mut [u16; 32],
+    valid: &mut [u8; 32],
+    bytes: &mut [u8; 512],
+    last: &mut [u8; 16],
+    line: u32,
+    frame: u16,
+    content: [u8; 16],
+)
+    requires { ⌜ hitIn (now held) (now valid) line ≡ Miss ⌝ }
+    ensures { λ _. ⌜ cacheOf (now (held .exit)) (now (origins .exit)) (now (valid .exit)) (now (bytes .exit)) (now (last .exit))
+        ≡ placedIn (cacheOf (now (held .entry)) (now (origins .entry)) (now (valid .entry)) (now (bytes .entry)) (now (last .entry))) line frame content ⌝ }
+{
+    let way = free_way(valid, last, line % 16);
+    put_in(held, origins, valid, bytes, last, line, way, frame, content);
 }
 
 // A use of the line that an entry holds: its way was used last, and the entry stays as it is.

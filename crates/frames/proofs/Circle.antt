@@ -1,9 +1,11 @@
 -- Frames and their indexes from OMF, one to one round the circle. Assumes nothing.
 use mathlib.Core.Path.{_≡_, sym}
-use mathlib.Core.Logic.{inl, inr, ⊎-elim}
+use mathlib.Core.Logic.{_⊎_, inl, inr, ⊎-elim, _≢_}
 use Prim.Native.Nat.{ℕ, _+_, _-_, _%_, _≤_, _<_}
 use native.Mathlib.Nat.{mod-lt, mod-eq-of-lt}
+use native.Mathlib.Decide.{decLt}
 use native.Mathlib.Omega.{arith}
+use Rattle.rules.specs.Registers.{liveBetween}
 use Rattle.rules.proofs.Circle.{wrap, Reaches, index-reaches, reaches-index}
 use mir.Syntax.{w32}
 use mir.Val.{Fits}
@@ -60,3 +62,41 @@ module _ (n omf place : ℕ) (t : Turn n omf place) where
 -- one more than an index fits its type
 pub live-small : (n omf f r : ℕ) → r ≡ indexOf n omf f → Turn n omf f → Fits w32 (r + 1)
 live-small n omf f r e t = record { fits = omega (arith, index-below n omf (t .omf-below) f, t .few) }
+
+-- ---- the frame behind a frame
+module _ (n frame : ℕ) (b : frame < n) where
+  next-cases : ((frame + 1 < n) × ((frame + 1) % n ≡ frame + 1)) ⊎ ((n ≤ frame + 1) × ((frame + 1) % n + n ≡ frame + 1))
+  next-cases = wrap n (frame + 1) (omega arith)
+
+  pub next-on : frame + 1 < n → frame + 1 ≡ (frame + 1) % n
+  next-on h = sym (mod-eq-of-lt h)
+
+  pub next-round : n ≤ frame + 1 → 0 ≡ (frame + 1) % n
+  next-round h = ⊎-elim (λ w. absurd (omega (arith, w .0))) (λ w. omega (arith, w .1)) next-cases
+
+-- No frame is left just where OMF is the one behind CMF.
+module _ (n omf cmf : ℕ) (h : omf < n) (b : cmf < n) (next : ℕ) (is : next ≡ (cmf + 1) % n) where
+  abbrev i : ℕ
+  i = (cmf + n - omf) % n
+
+  few : i < n
+  few = mod-lt (cmf + n - omf) (omega arith)
+
+  pub none-left : next ≡ omf → n ≤ liveBetween n cmf omf
+  unfolding liveBetween
+  none-left e =
+      ⊎-elim (λ r. ⊎-elim (λ w. omega (arith, r, w, few)) (λ w. omega (arith, r, w, few)) (next-cases n cmf b))
+      (λ r. ⊎-elim (λ w. omega (arith, r, w, few)) (λ w. omega (arith, r, w, few)) (next-cases n cmf b)) (index-reaches n cmf omf b h)
+
+  pub some-left : next ≢ omf → liveBetween n cmf omf < n
+  unfolding liveBetween
+  some-left e =
+      elim (decLt (i + 1) n) [
+        | yes l ↦ l
+        | no l ↦ absurd (e (same (omega arith)))
+      ]
+    where
+      same : n ≤ i + 1 → next ≡ omf
+      same l =
+          ⊎-elim (λ r. ⊎-elim (λ w. omega (arith, r, w, few)) (λ w. omega (arith, r, w, few)) (next-cases n cmf b))
+          (λ r. ⊎-elim (λ w. omega (arith, r, w, few)) (λ w. omega (arith, r, w, few)) (next-cases n cmf b)) (index-reaches n cmf omf b h)

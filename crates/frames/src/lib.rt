@@ -1,6 +1,7 @@
 // The circle of frames: frame numbers are compared only by their index from OMF. The pool's pages turn on it too, from the page where the
 // needed ones start. The functions are called by our own crates alone, which test what a `requires` asks.
 ghost use mathlib.Core.Path.{_≡_};
+ghost use Prim.Native.Nat.{_+_, _%_};
 ghost use Rattle.rules.specs.Registers.{liveBetween};
 ghost use Rattle.frames.specs.Circle.{Turn, indexOf, frameAt};
 
@@ -33,4 +34,13 @@ pub fn live(frames: u32, omf: u32, cmf: u32) -> u32
     ensures { λ r. ⌜ r ≡ liveBetween frames cmf omf ⌝ }
 {
     index(frames, omf, cmf) + 1
+}
+
+// The frame behind a frame, round the circle.
+pub fn next(frames: u32, frame: u32) -> u32
+    requires { ⌜ Turn frames frame frame ⌝ }
+    ensures { λ r. ⌜ r ≡ (frame + 1) % frames ⌝ }
+{
+    let after = frame + 1;
+    if after < frames { after } else { 0 }
 }

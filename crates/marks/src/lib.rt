@@ -32,8 +32,7 @@ pub fn mark(
     if refusal != 0 {
         return Step { registers, refusal };
     }
-    let next = (registers.cmf + 1) % registers.frames;
-    registers.cmf = next;
+    registers.cmf = frames::next(registers.frames, registers.cmf);
     Step {
         registers,
         refusal: 0,

@@ -1,5 +1,4 @@
 pub mod Places
-pub mod Values
 pub mod Needs
 pub mod Counting
 pub mod Halving

@@ -8,8 +8,10 @@ use native.Mathlib.Omega.{arith}
 use borrow.Rule.Slice.PartMut.{midOf, postOf, putMid, mid-len}
 use lib.ListN.{length, take, drop, take-append-drop}
 use lib.Seq.{length-take-le, drop-drop}
-use Rattle.lists.specs.Lines.{lineAt, pasteLine}
+use Rattle.rules.specs.Line.{edit}
+use Rattle.lists.specs.Lines.{lineAt, pasteLine, AsksBytes}
 use Rattle.lists.proofs.Lines.{line-front, paste-front, paste-behind, read-other, apart}
+use Rattle.lists.proofs.Values.{line-edit}
 use Rattle.pages.specs.Lines.{pageLine, withPageLine, archiveLine, withArchiveLine, AsksPage}
 
 -- ---- the k bytes from a on, as a part
@@ -75,3 +77,9 @@ pub page-other : (pool x : List ℕ) (p s q t : ℕ) → 128 * p + 128 ≤ lengt
     → pageLine (withPageLine pool p s x) q t ≡ pageLine pool q t
 page-other pool x p s q t room long a b d =
     read-other pool x (128 * p + 16 * s) (omega arith) long (128 * q + 16 * t) (pages-apart q t p s b a d)
+
+-- a value written where its line stands
+pub page-edit : (pool : List ℕ) (page slot w o v : ℕ) → (AsksPage page slot (length pool)) × (AsksBytes w o) → (after : List ℕ) → after ≡ edit w (128 * page + 16 * slot + o) v pool
+    → after ≡ withPageLine pool page slot (edit w o v (pageLine pool page slot))
+page-edit pool page slot w o v asks after e =
+    e ∙ line-edit w o (128 * page + 16 * slot) pool (asks .1) v (omega (arith, asks .0 .slot-below, asks .0 .room))

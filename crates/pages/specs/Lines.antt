@@ -30,8 +30,3 @@ pub record AsksPage (page slot long : ℕ) : Type 0 where
 pub record AsksArchive (line long : ℕ) : Type 0 where
   pub line-few : line < 4096
   pub room : 128 * blockOf line + 128 ≤ long
-
--- What is asked of the bytes of a value: "width is 1, 2 or 4 bytes", and they lie in one line.
-pub record AsksBytes (width offset : ℕ) : Type 0 where
-  pub width-few : width ≤ 4
-  pub inside : offset + width ≤ 16

@@ -1,9 +1,11 @@
-// Lines of 16 bytes by value: read from a page and copied to it, and values of some bytes read from a line and written to it.
+// Lines of 16 bytes by value: read from a page and copied to it, and values of some bytes read from a line and written to it, by value or
+// where it stands.
 ghost use mathlib.Core.Path.{_≡_};
 ghost use Prim.Native.Nat.{_<_};
 ghost use lib.ListN.{length};
 ghost use Rattle.rules.specs.Line.{valueAt, edit};
-ghost use Rattle.pages.specs.Lines.{AsksPage, AsksArchive, AsksBytes};
+ghost use Rattle.lists.specs.Lines.{AsksBytes};
+ghost use Rattle.pages.specs.Lines.{AsksPage, AsksArchive};
 ghost use Rattle.pages.specs.Lines.{pageLine, withPageLine, archiveLine, withArchiveLine};
 
 // The line in a slot of a page: the pool's part that starts at the page's first byte is handed to the line reader.
@@ -58,37 +60,29 @@ pub fn write_archive_line(archive: &mut [u8], line: u32, content: [u8; 16])
     write_page_line(archive, line / 8, line % 8, content);
 }
 
-// The value of so many bytes of a line, from an offset on: four steps for every width, so that no jump depends on it.
+// The value of so many bytes of a line, from an offset on.
 pub fn value_of(line: [u8; 16], width: u32, offset: u32) -> u32
     requires { ⌜ AsksBytes width offset ⌝ }
     ensures { λ r. ⌜ r ≡ valueAt width offset line ⌝ }
 {
-    let mut value = 0;
-    let mut i = 0;
-    while i < 4 {
-        let at = numbers::min(offset + i, 15) as usize;
-        let byte = numbers::widen_u8(line[at]);
-        if i < width {
-            value = value * 256 + byte;
-        }
-        i += 1;
-    }
-    value
+    lists::read_value(&line, offset as usize, width)
 }
 
-// A line with the bytes of a value at an offset, written from the last to the first.
+// A line with the bytes of a value at an offset.
 pub fn edited(line: [u8; 16], width: u32, offset: u32, value: u32) -> [u8; 16]
     requires { ⌜ AsksBytes width offset ⌝ }
     ensures { λ r. ⌜ r ≡ edit width offset value line ⌝ }
 {
-    let first = offset as usize;
-    let mut at = (offset + width) as usize;
-    let mut rest = value;
     let mut after = line;
-    while first < at {
-        at -= 1;
-        after[at] = (rest % 256) as u8;
-        rest = rest / 256;
-    }
+    lists::write_value(&mut after, offset as usize, width, value);
     after
+}
+
+// Writes a value at an offset of the line in a slot of a page, where the line stands.
+pub fn edit_page_line(pool: &mut [u8], page: u32, slot: u32, width: u32, offset: u32, value: u32)
+    requires { ⌜ (AsksPage page slot (length (now pool))) × (AsksBytes width offset) ⌝ }
+    ensures { λ _. ⌜ now (pool .exit) ≡ withPageLine (now (pool .entry)) page slot (edit width offset value (pageLine (now (pool .entry)) page slot)) ⌝ }
+{
+    let at = 128 * page + 16 * slot + offset;
+    lists::write_value(pool, at as usize, width, value);
 }

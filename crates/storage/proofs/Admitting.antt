@@ -196,6 +196,9 @@ module _ (s : Registers) (p : Pieces) (r : Room s p) where
   pub room-turn : Turn (s .settings .frames) (s .omf) (s .cmf)
   room-turn = record { omf-below = r .omf-below; below = r .cmf-below; few = omega (arith, r .frames-to) }
 
+  pub room-next : Turn (s .settings .frames) (s .cmf) (s .cmf)
+  room-next = record { omf-below = r .cmf-below; below = r .cmf-below; few = omega (arith, r .frames-to) }
+
   pub room-circle : Turn (s .settings .frames) (s .omf) (s .omf)
   room-circle = record { omf-below = r .omf-below; below = r .omf-below; few = omega (arith, r .frames-to) }
 

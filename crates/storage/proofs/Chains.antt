@@ -4,6 +4,7 @@ use mathlib.Core.Logic.{_≢_, _⊎_, inl, inr}
 use mathlib.Core.Bool.{Bool, true, false, not, _&&_, _||_, and-false, false≢true}
 use mathlib.Core.List.{List}
 use Prim.Native.Nat.{ℕ, _+_, _-_, _*_, _%_, _^_, _≤_, _<_}
+use native.Mathlib.Nat.{mod-one}
 use native.Mathlib.Omega.{arith}
 use borrow.Author.Tests.{ltb-true, not-true, not-false, eqb-true, eqb-false, lt-ltb, le-ltb, le-leb, lt-leb, eq-eqb, ne-eqb}
 use lib.Dec.{ltb, leb, eqb}
@@ -16,7 +17,8 @@ use Rattle.rules.proofs.Width.{widths, in-line, line-below}
 use Rattle.rules.proofs.Registers.{live-some}
 use Rattle.numbers.specs.declared.Found.{Found}
 use Rattle.written.specs.Bits.{writtenOf, newestFrom}
-use Rattle.pages.specs.Lines.{AsksBytes}
+use Rattle.lists.specs.Lines.{AsksBytes}
+use Rattle.lists.proofs.Values.{four}
 use Rattle.versions.specs.declared.Spot.{Spot}
 use Rattle.versions.specs.Newest.{AsksSpot, spotOf, AsksContent}
 use Rattle.versions.proofs.Finding.{newest-below, content-asks}
@@ -82,8 +84,8 @@ module _ (w : ℕ) where
         four false e = absurd (false≢true (width-none a b (eqb-false w 4 e) ∙ h))
 
 -- The lengths measured are the lent pieces'.
-pub measured-none : (s : Registers) {a : ℕ} {p n : Pieces} → p ≡ n → a ≡ admitted s p 0 → a ≡ 0 → admitted s n 0 ≡ 0
-measured-none s e told z = ap (λ (m : Pieces). admitted s m 0) (sym e) ∙ (sym told ∙ z)
+pub measured-none : (s : Registers) (rest : ℕ) {a : ℕ} {p n : Pieces} → p ≡ n → a ≡ admitted s p rest → a ≡ 0 → admitted s n rest ≡ 0
+measured-none s rest e told z = ap (λ (m : Pieces). admitted s m rest) (sym e) ∙ (sym told ∙ z)
 
 pub asked-measured : (s : Settings) {a : ℕ} {p n : Pieces} → p ≡ n → a ≡ askedRefusal p s → a ≡ askedRefusal n s
 asked-measured s e told = told ∙ ap (λ (m : Pieces). askedRefusal m s) e
@@ -138,13 +140,13 @@ module _ (s : Registers) (p : Pieces) where
       line-past l h = admitted-on 9 (lineRefusal (s .settings) l) (sym (ap (λ (b : Bool). unless b 9 0) (le-ltb l (s .settings .lines) h)))
 
       -- MARK
-      pub mark-passes : (live r : ℕ) → r ≡ live → r < s .settings .frames → 0 ≡ admitted s p (unless (ltb live (s .settings .frames)) 12 0)
+      pub mark-passes : (live : ℕ) → live < s .settings .frames → 0 ≡ admitted s p (unless (ltb live (s .settings .frames)) 12 0)
       unfolding unless
-      mark-passes live r e h = admitted-on 0 (unless (ltb live (s .settings .frames)) 12 0) (sym (ap (λ (b : Bool). unless b 12 0) (lt-ltb live (s .settings .frames) (omega arith))))
+      mark-passes live h = admitted-on 0 (unless (ltb live (s .settings .frames)) 12 0) (sym (ap (λ (b : Bool). unless b 12 0) (lt-ltb live (s .settings .frames) h)))
 
-      pub mark-past : (live r : ℕ) → r ≡ live → s .settings .frames ≤ r → 12 ≡ admitted s p (unless (ltb live (s .settings .frames)) 12 0)
+      pub mark-past : (live : ℕ) → s .settings .frames ≤ live → 12 ≡ admitted s p (unless (ltb live (s .settings .frames)) 12 0)
       unfolding unless
-      mark-past live r e h = admitted-on 12 (unless (ltb live (s .settings .frames)) 12 0) (sym (ap (λ (b : Bool). unless b 12 0) (le-ltb live (s .settings .frames) (omega arith))))
+      mark-past live h = admitted-on 12 (unless (ltb live (s .settings .frames)) 12 0) (sym (ap (λ (b : Bool). unless b 12 0) (le-ltb live (s .settings .frames) h)))
 
       -- ROLLBACK and ADVANCE
       pub frames-none : (live k : ℕ) → k ≡ 0 → 11 ≡ admitted s p (markedRefusal live k)
@@ -173,13 +175,20 @@ module _ (s : Registers) (p : Pieces) where
       unfolding listRefusal unless
       list-short items room h = admitted-on 14 (listRefusal items room) (sym (ap (λ (b : Bool). unless b 14 0) (lt-leb items room h)))
 
+-- What is left of an address by each of the widths.
+pub rest-one : (w addr : ℕ) → w ≡ 1 → 0 ≡ addr % w
+rest-one w addr e = sym (ap (λ (n : ℕ). addr % n) e ∙ mod-one addr)
+
+pub rest-two : (w addr : ℕ) → w ≡ 2 → addr % 2 ≡ addr % w
+rest-two w addr e = ap (λ (n : ℕ). addr % n) (sym e)
+
+pub rest-four : (w addr : ℕ) → isWidth w ≡ true → w ≢ 1 → w ≢ 2 → addr % 4 ≡ addr % w
+rest-four w addr h a b = ap (λ (n : ℕ). addr % n) (sym (four w h a b))
+
 -- The tests of a width and an address,
 module _ (w : ℕ) (b : Bool) (width : b ≡ isWidth w) (known : not b ≡ false) where
-  of-width : isWidth w ≡ true
+  pub of-width : isWidth w ≡ true
   of-width = sym width ∙ not-false b known
-
-  pub width-some : 0 < w
-  width-some = width-few w of-width .0
 
   pub width-in : (lines : ℕ) → (8 ≤ lines) × (lines ≤ 4096) → w ≤ 16 * lines
   width-in lines h = omega (arith, width-few w of-width .1)
@@ -190,11 +199,14 @@ module _ (s : Settings) (w addr : ℕ) (b : Bool) (width : b ≡ isWidth w) wher
   place-width h = sym (fails (isWidth w) 7 _ (sym width ∙ not-true b h))
 
   module _ (known : not b ≡ false) where
-    pub place-aligned : addr % w ≢ 0 → 8 ≡ placeRefusal s w addr 0
+    pub place-aligned : (m : ℕ) → m ≡ addr % w → m ≢ 0 → 8 ≡ placeRefusal s w addr 0
     unfolding placeRefusal
-    place-aligned h = sym (passes (isWidth w) 7 _ 8 (of-width w b width known) (fails (eqb (addr % w) 0) 8 _ (ne-eqb (addr % w) 0 h)))
+    place-aligned m e h = sym (passes (isWidth w) 7 _ 8 (of-width w b width known) (fails (eqb (addr % w) 0) 8 _ (ne-eqb (addr % w) 0 (λ z. h (e ∙ z)))))
 
-    module _ (aligned : addr % w ≡ 0) where
+    module _ (m : ℕ) (rest : m ≡ addr % w) (none : m ≡ 0) where
+      aligned : addr % w ≡ 0
+      aligned = sym rest ∙ none
+
       pub place-past : 16 * s .lines - w < addr → 9 ≡ placeRefusal s w addr 0
       unfolding placeRefusal
       place-past h =
@@ -236,7 +248,7 @@ frames-told s p a k e = (e, frames-room s p a k e)
 
 -- READ and WRITE, whose bytes lie in one line,
 pub place-bytes : (s : Settings) (w a : ℕ) → Placed s w a → AsksBytes w (offsetOf a)
-place-bytes s w a p = record { width-few = width-few w (p .width) .1; inside = in-line (widths w (p .width)) a (p .aligned) }
+place-bytes s w a p = record { width-is = p .width; inside = in-line (widths w (p .width)) a (p .aligned) }
 
 pub place-room : (s : Registers) (p : Pieces) (r w a : ℕ) → r ≡ admitted s p (placeRefusal (s .settings) w a 0) → r ≡ 0 → PlaceRoom s p w a
 place-room s p r w a told z =

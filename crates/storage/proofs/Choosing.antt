@@ -156,10 +156,10 @@ module _ (x : Storage) (q : WellStore x) (l : ℕ) (b : l < x .state .registers 
     own-at : getD (x .memory .table) (entryOf w place) 0 ≡ getD (x .memory .table) entry 0
     own-at = ap (λ (y : ℕ). getD (x .memory .table) y 0) entry-is
 
-    own-back : getD (x .memory .owners) (getD (x .memory .table) entry 0) 0 ≡ place
+    pub own-back : getD (x .memory .owners) (getD (x .memory .table) entry 0) 0 ≡ place
     own-back = ap (λ (p : ℕ). getD (x .memory .owners) p 0) (sym own-at) ∙ has .back
 
-    chosen-own : Chosen (getD (x .memory .table) entry 0) (x .state .registers .used)
+    pub chosen-own : Chosen (getD (x .memory .table) entry 0) (x .state .registers .used)
     unfolding pageTaken usedAfter
     chosen-own =
         record {

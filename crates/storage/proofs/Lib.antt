@@ -19,3 +19,4 @@ pub mod Collecting
 pub mod Choosing
 pub mod Writing
 pub mod Storing
+pub mod Editing

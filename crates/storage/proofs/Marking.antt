@@ -3,7 +3,7 @@ use mathlib.Core.Path.{_≡_, refl, sym, _∙_, ap, ap₂, subst, fun-ext}
 use mathlib.Core.Logic.{_≢_}
 use mathlib.Core.Bool.{Bool, false, cond, _&&_, and-false}
 use mathlib.Core.Option.{Option, none, some}
-use Prim.Native.Nat.{ℕ, zero, suc, _+_, _-_, _<_}
+use Prim.Native.Nat.{ℕ, zero, suc, _+_, _-_, _%_, _<_}
 use native.Mathlib.Nat.{mod-lt}
 use native.Mathlib.Numerals.{add-one}
 use native.Mathlib.Decide.{decLt}
@@ -35,7 +35,7 @@ use Rattle.storage.specs.declared.Registers.{Registers}
 use Rattle.versions.specs.Newest.{pageOf}
 use Rattle.storage.specs.Storage.{Storage, stateOf, settingsIn, registersIn, lengthsIn, liveIn, writtenIn, frameIn, archiveIn, versionAt, latestIn, frameNumber, newestFrame, WellStore, store}
 use Rattle.storage.specs.Admit.{admitted}
-use Rattle.storage.specs.Steps.{markedRegisters, markedState}
+use Rattle.storage.specs.Steps.{registersWith, markedRegisters, markedState}
 use Rattle.storage.specs.Contracts.{Marks}
 use Rattle.storage.proofs.Limits.{Limits, limits}
 use Rattle.storage.proofs.Chains.{admitted-rest}
@@ -147,14 +147,18 @@ module _ (x : Storage) (r : ℕ) (p : Pieces) (are : p ≡ lengthsIn (x .memory)
   told : r ≡ admittedIn x (unless (ltb (liveIn (x .state)) (x .state .registers .frames)) 12 0)
   told = told-in x (unless (ltb (liveIn (x .state)) (x .state .registers .frames)) 12 0) r p are given
 
+  abbrev openedRegisters : (cmf : ℕ) → Registers
+  openedRegisters cmf = registersWith (x .state .registers) cmf (x .state .registers .omf) (x .state .registers .tag) (x .state .registers .first) (x .state .registers .used)
+
   pub mark-refused : r ≢ 0 → Marks x r x
   unfolding refusal actRefusal factsBy refused
   mark-refused z = (turned-down x (ON (CHANGE MARK)) r told z, λ e. absurd (z e))
 
-  pub mark-opens : r ≡ 0 → (t : Registers) → t ≡ markedRegisters (x .state .registers)
-      → Marks x 0 (record { state = stateOf t (x .state .cache); memory = x .memory })
+  pub mark-opens : r ≡ 0 → (next : ℕ) → next ≡ (x .state .registers .cmf + 1) % x .state .registers .frames
+      → Marks x 0 (record { state = stateOf (openedRegisters next) (x .state .cache); memory = x .memory })
   unfolding refusal actRefusal factsBy refused registersStep settingsFor markedState
-  mark-opens z t e =
+  mark-opens z next is =
+      let e : openedRegisters next ≡ markedRegisters (x .state .registers) = ap openedRegisters is in
       let rest = admitted-rest (registersIn (x .state)) (lengthsIn (x .memory)) r _ told z in
       let below = ltb-true (liveIn (x .state)) (x .state .registers .frames) (passed (ltb (liveIn (x .state)) (x .state .registers .frames)) 12 0 (omega arith) rest .0) in (
         subst (λ (s : Registers). Promise store (ON (CHANGE MARK)) x (outcome 0) (record { state = stateOf s (x .state .cache); memory = x .memory })) (sym e)

@@ -6,13 +6,14 @@ use Prim.Native.Nat.{ℕ, _+_, _-_, _*_, _/_, _≤_, _<_}
 use native.Mathlib.Decide.{decLt}
 use native.Mathlib.Omega.{arith}
 use borrow.Author.Tests.{lt-ltb, le-ltb}
-use lib.Dec.{ltb}
+use lib.Dec.{eqb, ltb}
 use lib.ListN.{length, getD, drop, length-drop, length-set}
 use lib.Seq.{ext-getD, getD-drop, drop-set-lt}
 use Rattle.lists.proofs.Lists.{rewrite-drop, rewrite-length}
-use Rattle.written.specs.Bits.{Written, writtenOf, AsksWritten}
+use Rattle.frames.specs.Circle.{indexOf}
+use Rattle.written.specs.Bits.{Written, writtenOf, AsksWritten, placeOf}
 use Rattle.written.proofs.Rolling.{group-place}
-use Rattle.written.specs.Steps.{RolledBack, swept, nextTag, lowered, withWritten}
+use Rattle.written.specs.Steps.{RolledBack, swept, nextTag, lowered, withWritten, renewed}
 
 -- The same of a list is true of what is left of it behind an element, if it is true of each element there.
 drop-alike : (n : ℕ) (xs ys : List ℕ) → length xs ≡ length ys → ((i : ℕ) → n ≤ i → getD xs i 0 ≡ getD ys i 0) → drop n xs ≡ drop n ys
@@ -73,3 +74,12 @@ module _ (w : Written) (tag l i : ℕ) where
   pub written-past : AsksWritten w → l < w .lines → drop (w .frames / 16 * w .lines) (withWritten w tag l i) ≡ drop (w .frames / 16 * w .lines) (w .groups)
   unfolding withWritten
   written-past lent b = drop-set-lt (w .frames / 16 * w .lines) (w .groups) _ _ (group-place w lent i l b)
+
+-- What is true of the groups and of those with a bit written is true of those renewed.
+pub renewed-either : (w : Written) (tag l f : ℕ) (P : List ℕ → Type 0) → P (w .groups) → P (withWritten w tag l (indexOf (w .frames) (w .omf) f)) → P (renewed w tag l f)
+unfolding renewed
+renewed-either w tag l f P kept written = go (eqb (getD (w .groups) (placeOf (w .lines) (f / 16) l) 0 / 65536) tag)
+  where
+    go : (b : Bool) → P (cond b (w .groups) (withWritten w tag l (indexOf (w .frames) (w .omf) f)))
+    go true = kept
+    go false = written

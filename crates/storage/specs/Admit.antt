@@ -7,7 +7,7 @@ use Rattle.rules.specs.Line.{lineOf, offsetOf}
 use Rattle.rules.specs.declared.Need.{Need}
 use Rattle.rules.specs.Registers.{Registers, liveFrames}
 use Rattle.rules.specs.Refusal.{factsBy, stateRefusal}
-use Rattle.pages.specs.Lines.{AsksBytes}
+use Rattle.lists.specs.Lines.{AsksBytes}
 use Rattle.storage.specs.declared.Lengths.{Lengths}
 
 -- The measured lengths as the rules have them.

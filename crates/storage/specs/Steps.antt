@@ -1,15 +1,16 @@
 -- What each call leaves of state and lent memory.
-use Prim.Native.Nat.{ℕ, _+_, _-_, _/_, _%_, _<_}
+use Prim.Native.Nat.{ℕ, _+_, _-_, _*_, _/_, _%_, _≤_, _<_, min}
 use mathlib.Core.Path.{_≡_}
 use mathlib.Core.List.{List}
 use mathlib.Core.Bool.{cond}
 use lib.ListN.{length, getD, set}
 use Rattle.rules.specs.Line.{Line, edit, lineOf, offsetOf}
 use Rattle.frames.specs.Circle.{frameAt}
-use Rattle.written.specs.Bits.{writtenOf}
+use Rattle.written.specs.Bits.{writtenOf, writtenAt, Asks}
 use Rattle.written.specs.Steps.{RolledBack, withWritten, blanked, lowered}
-use Rattle.pages.specs.Lines.{withPageLine, AsksBytes}
-use Rattle.pages.specs.Table.{placeAt, neededAt, entryAt}
+use Rattle.lists.specs.Lines.{AsksBytes}
+use Rattle.pages.specs.Lines.{withPageLine}
+use Rattle.pages.specs.Table.{placeAt, neededAt, entryAt, AsksEntry}
 use Rattle.pages.specs.Ring.{nthPage, indexAt, Leading, Leads}
 use Rattle.versions.specs.Newest.{latestOf, AsksNewest}
 use Rattle.versions.specs.Steps.{zeroed, foldedPages, clearedPages, AsksPut}
@@ -17,7 +18,7 @@ use Rattle.cache.specs.declared.Cache.{Cache}
 use Rattle.cache.specs.Steps.{emptied, placedIn, forgotten, collected}
 use Rattle.storage.specs.declared.Registers.{Registers}
 use Rattle.storage.specs.declared.State.{State}
-use Rattle.storage.specs.Storage.{Storage, Lent, memoryOf, stateOf, ringAt, liveIn, writtenIn, latestIn, newestFrame, WellStore}
+use Rattle.storage.specs.Storage.{Storage, Lent, memoryOf, stateOf, shapeAt, ringAt, liveIn, writtenIn, latestIn, newestFrame, WellStore}
 
 -- RESET: "one live frame .., cache empty".
 unfoldable pub freshState : (lines frames pages : ℕ) → State
@@ -170,3 +171,18 @@ pub record AsksWrite (x : Storage) (width address live page : ℕ) : Type 0 wher
       AsksPut (writtenIn x) (x .state .registers .pages) (x .state .registers .tag % 256) (lineOf address) (live - 1) page (x .memory .pool) (x .memory .table) (x .memory .owners)
   pub bytes : AsksBytes width (offsetOf address)
   pub cmf-below : x .state .registers .cmf < x .state .registers .frames
+
+-- WRITE's short way, to a line that an entry of the cache holds with CMF as its frame. Its page is the table's; a number past the pool, which
+-- no well-formed table names, counts as the last page.
+abbrev pub namedPage : Registers → (table : List ℕ) → (line : ℕ) → ℕ
+namedPage r table l = min (getD table (entryAt (r .lines) (r .cmf) (l / 8)) 0) (r .pages - 1)
+
+-- What is asked for it.
+pub record AsksEdit (r : Registers) (width address entry : ℕ) (pool groups table history : List ℕ) : Type 0 where
+  pub entry-few : entry < 32
+  pub bytes : AsksBytes width (offsetOf address)
+  pub named : AsksEntry (r .lines) (r .cmf) (lineOf address / 8) (length table)
+  pub pages-some : 1 ≤ r .pages
+  pub pages-few : r .pages ≤ 4096
+  pub pool-long : 128 * r .pages ≤ length pool
+  pub written : Asks (writtenAt (shapeAt r) groups history) (lineOf address) (r .cmf)

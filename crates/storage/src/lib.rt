@@ -5,7 +5,7 @@ use rules::Need;
 use written::Shape;
 ghost use mathlib.Core.Path.{_≡_};
 ghost use mathlib.Core.Bool.{true};
-ghost use Prim.Native.Nat.{_^_, _≤_};
+ghost use Prim.Native.Nat.{_%_, _^_, _≤_};
 ghost use lib.Dec.{ltb};
 ghost use Rattle.rules.specs.Settings.{covers};
 ghost use Rattle.rules.specs.Sizing.{settingsOf};
@@ -33,6 +33,12 @@ pub struct Registers {
 pub struct State {
     pub registers: Registers,
     pub cache: Cache,
+}
+
+// The pages in use after a WRITE or a block of them, which leave the other registers, and the refusal or 0.
+pub struct Given {
+    pub used: u32,
+    pub refusal: u32,
 }
 
 // The registers after a call, and its refusal or 0.
@@ -188,7 +194,7 @@ pub fn admit_mark(registers: Registers, lengths: Lengths) -> u32
     if refusal != 0 {
         return refusal;
     }
-    if registers.frames <= frames::live(registers.frames, registers.omf, registers.cmf) {
+    if frames::next(registers.frames, registers.cmf) == registers.omf {
         return 12;
     }
     0
@@ -227,6 +233,20 @@ fn is_width(width: u32) -> bool
     false
 }
 
+// What is left of an address by a width, which is one of the three: no division is made.
+fn remainder(width: u32, address: u32) -> u32
+    requires { ⌜ isWidth width ≡ true ⌝ }
+    ensures { λ r. ⌜ r ≡ address % width ⌝ }
+{
+    if width == 1 {
+        return 0;
+    }
+    if width == 2 {
+        return address % 2;
+    }
+    address % 4
+}
+
 // 7 to 9: the tests of a width and an address, which may be any number: nothing is added to it.
 fn place_refusal(registers: Registers, width: u32, address: u32) -> u32
     requires { ⌜ (8 ≤ registers .lines) × (registers .lines ≤ 4096) ⌝ }
@@ -235,7 +255,7 @@ fn place_refusal(registers: Registers, width: u32, address: u32) -> u32
     if !is_width(width) {
         return 7;
     }
-    if address % width != 0 {
+    if remainder(width, address) != 0 {
         return 8;
     }
     if 16 * registers.lines - width < address {

@@ -126,7 +126,7 @@ pub fn write(
     let mut valid = cache.valid;
     let mut bytes = cache.bytes;
     let mut last = cache.last;
-    let step = access::write(
+    let given = access::write(
         state.registers,
         &mut held,
         &mut origins,
@@ -143,7 +143,8 @@ pub fn write(
         address,
         value,
     );
-    let registers = step.registers;
+    let mut registers = state.registers;
+    registers.used = given.used;
     let after = Cache {
         held,
         origins,
@@ -156,7 +157,7 @@ pub fn write(
             registers,
             cache: after,
         },
-        refusal: step.refusal,
+        refusal: given.refusal,
     }
 }
 
@@ -183,7 +184,7 @@ pub fn write_block(
     let mut valid = cache.valid;
     let mut bytes = cache.bytes;
     let mut last = cache.last;
-    let step = write_blocks::write_block(
+    let given = write_blocks::write_block(
         state.registers,
         &mut held,
         &mut origins,
@@ -199,7 +200,8 @@ pub fn write_block(
         items,
         answers,
     );
-    let registers = step.registers;
+    let mut registers = state.registers;
+    registers.used = given.used;
     let after = Cache {
         held,
         origins,
@@ -212,7 +214,7 @@ pub fn write_block(
             registers,
             cache: after,
         },
-        refusal: step.refusal,
+        refusal: given.refusal,
     }
 }
 

@@ -1,14 +1,12 @@
 // The calls exported to C and Rust: the static library of this crate defines each under its plain name. include/vcm.h declares them, with
 // an inline function for each that takes a pointer to the state and one to the memory. A lent piece crosses as its address and its
-// count of elements, the registers by value, the cache's arrays where they lie; RESET and CHECK, which go over the whole store, take the
+// count of elements, the registers and the cache's arrays where they lie; RESET and CHECK, which go over the whole store, take the
 // state by value. No struct that crosses has a bool or an enum, so that every byte that a caller may hand over is a value.
 use store::Counted;
 use store::Need;
 use store::Origin;
 use store::Outcome;
-use store::Registers;
 use store::State;
-use store::Step;
 ghost use mathlib.Core.Path.{_≡_};
 ghost use Rattle.rules.specs.Sizing.{settingsOf, sizing};
 ghost use Rattle.rules.specs.Call.Answer.{outcome, counting};
@@ -18,6 +16,7 @@ ghost use Rattle.storage.specs.Storage.{memoryOf, stateOf, storageOf};
 ghost use Rattle.storage.specs.Steps.{freshState};
 ghost use Rattle.store.specs.Shown.{shownOrigin};
 ghost use Rattle.storage.specs.Contracts.{Resets, Writes, Looks, MarksIn, RollsBackIn, AdvancesIn};
+ghost use Rattle.border.specs.Lent.{registersFrom};
 ghost use Rattle.vcm.specs.Numbers.{originNumber, marksBack, ReadsAs, copied, CopiesLine, ChecksAs};
 
 // An origin as a number. Marks back are 0 but for a frame's.
@@ -125,10 +124,10 @@ pub extern "C" fn vcm_raw_reset(
     )
 }
 
-// WRITE: writes the cache, pool, groups, table and owners.
+// WRITE: writes the registers, the cache, pool, groups, table and owners.
 #[no_mangle]
 pub extern "C" fn vcm_raw_write(
-    registers: Registers,
+    registers: &mut [u32; 8],
     held: &mut [u32; 32],
     origins: &mut [u16; 32],
     valid: &mut [u8; 32],
@@ -143,14 +142,14 @@ pub extern "C" fn vcm_raw_write(
     width: u32,
     address: u32,
     value: u32,
-) -> Step
+) -> u32
     ensures { λ r. ⌜ Writes
-        (storageOf (stateOf registers (cacheOf (now (held .entry)) (now (origins .entry)) (now (valid .entry)) (now (bytes .entry)) (now (last .entry)))) (now (archive .entry)) (now (pool .entry)) (now (groups .entry)) (now (table .entry)) (now (owners .entry)) (now (history .entry)))
-        width address value (r .refusal)
-        (storageOf (stateOf (r .registers) (cacheOf (now (held .exit)) (now (origins .exit)) (now (valid .exit)) (now (bytes .exit)) (now (last .exit)))) (now (archive .entry)) (now (pool .exit)) (now (groups .exit)) (now (table .exit)) (now (owners .exit)) (now (history .entry))) ⌝ }
+        (storageOf (stateOf (registersFrom (now (registers .entry))) (cacheOf (now (held .entry)) (now (origins .entry)) (now (valid .entry)) (now (bytes .entry)) (now (last .entry)))) (now (archive .entry)) (now (pool .entry)) (now (groups .entry)) (now (table .entry)) (now (owners .entry)) (now (history .entry)))
+        width address value r
+        (storageOf (stateOf (registersFrom (now (registers .exit))) (cacheOf (now (held .exit)) (now (origins .exit)) (now (valid .exit)) (now (bytes .exit)) (now (last .exit)))) (now (archive .entry)) (now (pool .exit)) (now (groups .exit)) (now (table .exit)) (now (owners .exit)) (now (history .entry))) ⌝ }
 {
-    access::write(
-        registers,
+    let given = access::write(
+        border::load(registers),
         held,
         origins,
         valid,
@@ -165,13 +164,15 @@ pub extern "C" fn vcm_raw_write(
         width,
         address,
         value,
-    )
+    );
+    border::store_used(registers, given.used);
+    given.refusal
 }
 
 // READ: writes the cache.
 #[no_mangle]
 pub extern "C" fn vcm_raw_read(
-    registers: Registers,
+    registers: &[u32; 8],
     held: &mut [u32; 32],
     origins: &mut [u16; 32],
     valid: &mut [u8; 32],
@@ -187,12 +188,12 @@ pub extern "C" fn vcm_raw_read(
     address: u32,
 ) -> Reading
     ensures { λ r. ⌜ ReadsAs
-        (storageOf (stateOf registers (cacheOf (now (held .entry)) (now (origins .entry)) (now (valid .entry)) (now (bytes .entry)) (now (last .entry)))) (now (archive .entry)) (now (pool .entry)) (now (groups .entry)) (now (table .entry)) (now (owners .entry)) (now (history .entry)))
+        (storageOf (stateOf (registersFrom (now (registers .entry))) (cacheOf (now (held .entry)) (now (origins .entry)) (now (valid .entry)) (now (bytes .entry)) (now (last .entry)))) (now (archive .entry)) (now (pool .entry)) (now (groups .entry)) (now (table .entry)) (now (owners .entry)) (now (history .entry)))
         width address (r .refusal) (r .value) (r .origin) (r .«marks_back»)
-        (storageOf (stateOf registers (cacheOf (now (held .exit)) (now (origins .exit)) (now (valid .exit)) (now (bytes .exit)) (now (last .exit)))) (now (archive .entry)) (now (pool .entry)) (now (groups .entry)) (now (table .entry)) (now (owners .entry)) (now (history .entry))) ⌝ }
+        (storageOf (stateOf (registersFrom (now (registers .entry))) (cacheOf (now (held .exit)) (now (origins .exit)) (now (valid .exit)) (now (bytes .exit)) (now (last .exit)))) (now (archive .entry)) (now (pool .entry)) (now (groups .entry)) (now (table .entry)) (now (owners .entry)) (now (history .entry))) ⌝ }
 {
     let r = access::read(
-        registers,
+        border::load(registers),
         held,
         origins,
         valid,
@@ -216,10 +217,10 @@ pub extern "C" fn vcm_raw_read(
     }
 }
 
-// LINE: puts the 16 bytes of the line's most recent version into the caller's, and gives the refusal or 0; refused, they stay.
+// LINE: puts the 16 bytes of the line's most recent version into the caller's, and gives the refusal or 0; refused, they stay. It tests once.
 #[no_mangle]
 pub extern "C" fn vcm_raw_line<'a>(
-    registers: Registers,
+    registers: &[u32; 8],
     archive: &'a [u8],
     pool: &'a [u8],
     groups: &[u32],
@@ -229,36 +230,23 @@ pub extern "C" fn vcm_raw_line<'a>(
     line: u32,
     bytes: &mut [u8; 16],
 ) -> u32
-    ensures { λ r. ⌜ CopiesLine registers (memoryOf (now (archive .entry)) (now (pool .entry)) (now (groups .entry)) (now (table .entry)) (now (owners .entry)) (now (history .entry))) line r (now (bytes .entry)) (now (bytes .exit)) ⌝ }
+    ensures { λ r. ⌜ CopiesLine (registersFrom (now (registers .entry))) (memoryOf (now (archive .entry)) (now (pool .entry)) (now (groups .entry)) (now (table .entry)) (now (owners .entry)) (now (history .entry))) line r (now (bytes .entry)) (now (bytes .exit)) ⌝ }
 {
-    let refusal = access::line_refusal(
-        registers,
-        archive,
-        pool,
-        groups,
-        table,
-        owners,
-        history,
-        line,
-    );
-    let part = access::line(
-        registers,
-        archive,
-        pool,
-        groups,
-        table,
-        owners,
-        history,
-        line,
-    );
+    let loaded = border::load(registers);
+    let lengths = storage::measure(archive, pool, groups, table, owners, history);
+    let refusal = storage::admit_line(loaded, lengths, line);
+    if refusal != 0 {
+        return refusal;
+    }
+    let part = access::line_admitted(loaded, archive, pool, groups, table, owners, history, line);
     copy_line(part, bytes);
-    refusal
+    0
 }
 
 // LINE's companion: its refusal or 0.
 #[no_mangle]
 pub extern "C" fn vcm_raw_line_refusal(
-    registers: Registers,
+    registers: &[u32; 8],
     archive: &[u8],
     pool: &[u8],
     groups: &[u32],
@@ -267,10 +255,10 @@ pub extern "C" fn vcm_raw_line_refusal(
     history: &[u16],
     line: u32,
 ) -> u32
-    ensures { λ r. ⌜ Looks (LINE-REFUSAL line) registers (memoryOf (now (archive .entry)) (now (pool .entry)) (now (groups .entry)) (now (table .entry)) (now (owners .entry)) (now (history .entry))) (outcome r) ⌝ }
+    ensures { λ r. ⌜ Looks (LINE-REFUSAL line) (registersFrom (now (registers .entry))) (memoryOf (now (archive .entry)) (now (pool .entry)) (now (groups .entry)) (now (table .entry)) (now (owners .entry)) (now (history .entry))) (outcome r) ⌝ }
 {
     access::line_refusal(
-        registers,
+        border::load(registers),
         archive,
         pool,
         groups,
@@ -281,26 +269,36 @@ pub extern "C" fn vcm_raw_line_refusal(
     )
 }
 
-// MARK: writes nothing lent.
+// MARK: writes the registers.
 #[no_mangle]
 pub extern "C" fn vcm_raw_mark(
-    registers: Registers,
+    registers: &mut [u32; 8],
     archive: &[u8],
     pool: &[u8],
     groups: &[u32],
     table: &[u16],
     owners: &[u32],
     history: &[u16],
-) -> Step
-    ensures { λ r. ⌜ MarksIn registers (memoryOf (now (archive .entry)) (now (pool .entry)) (now (groups .entry)) (now (table .entry)) (now (owners .entry)) (now (history .entry))) (r .refusal) (r .registers) ⌝ }
+) -> u32
+    ensures { λ r. ⌜ MarksIn (registersFrom (now (registers .entry))) (memoryOf (now (archive .entry)) (now (pool .entry)) (now (groups .entry)) (now (table .entry)) (now (owners .entry)) (now (history .entry))) r (registersFrom (now (registers .exit))) ⌝ }
 {
-    marks::mark(registers, archive, pool, groups, table, owners, history)
+    let step = marks::mark(
+        border::load(registers),
+        archive,
+        pool,
+        groups,
+        table,
+        owners,
+        history,
+    );
+    border::store(registers, step.registers);
+    step.refusal
 }
 
-// ROLLBACK: writes the cache's valid flags, groups and history.
+// ROLLBACK: writes the registers, the cache's valid flags, groups and history.
 #[no_mangle]
 pub extern "C" fn vcm_raw_rollback(
-    registers: Registers,
+    registers: &mut [u32; 8],
     origins: &[u16; 32],
     valid: &mut [u8; 32],
     archive: &[u8],
@@ -310,12 +308,12 @@ pub extern "C" fn vcm_raw_rollback(
     owners: &[u32],
     history: &mut [u16],
     k: u32,
-) -> Step
-    ensures { λ r. ⌜ RollsBackIn (now (origins .entry)) registers (now (valid .entry)) (memoryOf (now (archive .entry)) (now (pool .entry)) (now (groups .entry)) (now (table .entry)) (now (owners .entry)) (now (history .entry))) k (r .refusal) (r .registers) (now (valid .exit))
+) -> u32
+    ensures { λ r. ⌜ RollsBackIn (now (origins .entry)) (registersFrom (now (registers .entry))) (now (valid .entry)) (memoryOf (now (archive .entry)) (now (pool .entry)) (now (groups .entry)) (now (table .entry)) (now (owners .entry)) (now (history .entry))) k r (registersFrom (now (registers .exit))) (now (valid .exit))
         (memoryOf (now (archive .entry)) (now (pool .entry)) (now (groups .exit)) (now (table .entry)) (now (owners .entry)) (now (history .exit))) ⌝ }
 {
-    marks::rollback(
-        registers,
+    let step = marks::rollback(
+        border::load(registers),
         origins,
         valid,
         archive,
@@ -325,13 +323,15 @@ pub extern "C" fn vcm_raw_rollback(
         owners,
         history,
         k,
-    )
+    );
+    border::store(registers, step.registers);
+    step.refusal
 }
 
-// ADVANCE: writes the frames of the cache's entries, archive, groups and history.
+// ADVANCE: writes the registers, the frames of the cache's entries, archive, groups and history.
 #[no_mangle]
 pub extern "C" fn vcm_raw_advance(
-    registers: Registers,
+    registers: &mut [u32; 8],
     origins: &mut [u16; 32],
     archive: &mut [u8],
     pool: &[u8],
@@ -340,12 +340,12 @@ pub extern "C" fn vcm_raw_advance(
     owners: &[u32],
     history: &mut [u16],
     k: u32,
-) -> Step
-    ensures { λ r. ⌜ AdvancesIn registers (now (origins .entry)) (memoryOf (now (archive .entry)) (now (pool .entry)) (now (groups .entry)) (now (table .entry)) (now (owners .entry)) (now (history .entry))) k (r .refusal) (r .registers) (now (origins .exit))
+) -> u32
+    ensures { λ r. ⌜ AdvancesIn (registersFrom (now (registers .entry))) (now (origins .entry)) (memoryOf (now (archive .entry)) (now (pool .entry)) (now (groups .entry)) (now (table .entry)) (now (owners .entry)) (now (history .entry))) k r (registersFrom (now (registers .exit))) (now (origins .exit))
         (memoryOf (now (archive .exit)) (now (pool .entry)) (now (groups .exit)) (now (table .entry)) (now (owners .entry)) (now (history .exit))) ⌝ }
 {
-    marks::advance(
-        registers,
+    let step = marks::advance(
+        border::load(registers),
         origins,
         archive,
         pool,
@@ -354,13 +354,15 @@ pub extern "C" fn vcm_raw_advance(
         owners,
         history,
         k,
-    )
+    );
+    border::store(registers, step.registers);
+    step.refusal
 }
 
 // COUNTS: writes nothing.
 #[no_mangle]
 pub extern "C" fn vcm_raw_counts(
-    registers: Registers,
+    registers: &[u32; 8],
     archive: &[u8],
     pool: &[u8],
     groups: &[u32],
@@ -368,9 +370,17 @@ pub extern "C" fn vcm_raw_counts(
     owners: &[u32],
     history: &[u16],
 ) -> Counted
-    ensures { λ r. ⌜ Looks COUNTS registers (memoryOf (now (archive .entry)) (now (pool .entry)) (now (groups .entry)) (now (table .entry)) (now (owners .entry)) (now (history .entry))) (counting (r .refusal) (r .live) (r .pages)) ⌝ }
+    ensures { λ r. ⌜ Looks COUNTS (registersFrom (now (registers .entry))) (memoryOf (now (archive .entry)) (now (pool .entry)) (now (groups .entry)) (now (table .entry)) (now (owners .entry)) (now (history .entry))) (counting (r .refusal) (r .live) (r .pages)) ⌝ }
 {
-    marks::counts(registers, archive, pool, groups, table, owners, history)
+    marks::counts(
+        border::load(registers),
+        archive,
+        pool,
+        groups,
+        table,
+        owners,
+        history,
+    )
 }
 
 // CHECK: writes nothing.

@@ -1,16 +1,15 @@
 // The block of writes exported to C and Rust, as the calls of `vcm` are. It stands in a crate of its own, and so in a part of its own of the static
 // library: the compiler then has one caller of WRITE's body in each part and puts it there, and a program that makes no block does not link it.
-use storage::Registers;
-use storage::Step;
 ghost use Rattle.cache.specs.Entries.{cacheOf};
 ghost use Rattle.storage.specs.Storage.{stateOf, storageOf};
 ghost use Rattle.storage.specs.Contracts.{WritesBlock};
+ghost use Rattle.border.specs.Lent.{registersFrom};
 ghost use Rattle.write_blocks.specs.Items.{itemsOf};
 
-// A block of writes, three numbers an item: writes the cache, pool, groups, table, owners and the answers.
+// A block of writes, three numbers an item: writes the registers, the cache, pool, groups, table, owners and the answers.
 #[no_mangle]
 pub extern "C" fn vcm_raw_write_block(
-    registers: Registers,
+    registers: &mut [u32; 8],
     held: &mut [u32; 32],
     origins: &mut [u16; 32],
     valid: &mut [u8; 32],
@@ -24,14 +23,14 @@ pub extern "C" fn vcm_raw_write_block(
     history: &[u16],
     items: &[u32],
     answers: &mut [u32],
-) -> Step
+) -> u32
     ensures { λ r. ⌜ WritesBlock
-        (storageOf (stateOf registers (cacheOf (now (held .entry)) (now (origins .entry)) (now (valid .entry)) (now (bytes .entry)) (now (last .entry)))) (now (archive .entry)) (now (pool .entry)) (now (groups .entry)) (now (table .entry)) (now (owners .entry)) (now (history .entry)))
-        (itemsOf (now (items .entry))) (now (answers .entry)) (r .refusal) (now (answers .exit))
-        (storageOf (stateOf (r .registers) (cacheOf (now (held .exit)) (now (origins .exit)) (now (valid .exit)) (now (bytes .exit)) (now (last .exit)))) (now (archive .entry)) (now (pool .exit)) (now (groups .exit)) (now (table .exit)) (now (owners .exit)) (now (history .entry))) ⌝ }
+        (storageOf (stateOf (registersFrom (now (registers .entry))) (cacheOf (now (held .entry)) (now (origins .entry)) (now (valid .entry)) (now (bytes .entry)) (now (last .entry)))) (now (archive .entry)) (now (pool .entry)) (now (groups .entry)) (now (table .entry)) (now (owners .entry)) (now (history .entry)))
+        (itemsOf (now (items .entry))) (now (answers .entry)) r (now (answers .exit))
+        (storageOf (stateOf (registersFrom (now (registers .exit))) (cacheOf (now (held .exit)) (now (origins .exit)) (now (valid .exit)) (now (bytes .exit)) (now (last .exit)))) (now (archive .entry)) (now (pool .exit)) (now (groups .exit)) (now (table .exit)) (now (owners .exit)) (now (history .entry))) ⌝ }
 {
-    write_blocks::write_block(
-        registers,
+    let given = write_blocks::write_block(
+        border::load(registers),
         held,
         origins,
         valid,
@@ -45,5 +44,7 @@ pub extern "C" fn vcm_raw_write_block(
         history,
         items,
         answers,
-    )
+    );
+    border::store_used(registers, given.used);
+    given.refusal
 }

@@ -1,12 +1,13 @@
 // A block of writes: many WRITEs in one call. 5, 6 and 14 are tested once; each item is then done as a single WRITE is. The registers go by
 // value and the cache's arrays are changed where they lie, as in `access`.
+use storage::Given;
 use storage::Registers;
-use storage::Step;
 ghost use mathlib.Core.Path.{_≡_};
 ghost use Prim.Native.Nat.{_/_, _<_};
 ghost use lib.ListN.{length};
 ghost use Rattle.cache.specs.Entries.{cacheOf};
 ghost use Rattle.storage.specs.Storage.{stateOf, storageOf};
+ghost use Rattle.storage.specs.Steps.{givenRegisters};
 ghost use Rattle.storage.specs.Contracts.{WritesBlock};
 ghost use Rattle.write_blocks.specs.Items.{itemOf, itemAt, itemsOf};
 
@@ -46,23 +47,28 @@ pub fn write_block(
     history: &[u16],
     items: &[u32],
     answers: &mut [u32],
-) -> Step
+) -> Given
     ensures { λ r. ⌜ WritesBlock
         (storageOf (stateOf registers (cacheOf (now (held .entry)) (now (origins .entry)) (now (valid .entry)) (now (bytes .entry)) (now (last .entry)))) (now (archive .entry)) (now (pool .entry)) (now (groups .entry)) (now (table .entry)) (now (owners .entry)) (now (history .entry)))
         (itemsOf (now (items .entry))) (now (answers .entry)) (r .refusal) (now (answers .exit))
-        (storageOf (stateOf (r .registers) (cacheOf (now (held .exit)) (now (origins .exit)) (now (valid .exit)) (now (bytes .exit)) (now (last .exit)))) (now (archive .entry)) (now (pool .exit)) (now (groups .exit)) (now (table .exit)) (now (owners .exit)) (now (history .entry))) ⌝ }
+        (storageOf (stateOf (givenRegisters registers (r .used)) (cacheOf (now (held .exit)) (now (origins .exit)) (now (valid .exit)) (now (bytes .exit)) (now (last .exit)))) (now (archive .entry)) (now (pool .exit)) (now (groups .exit)) (now (table .exit)) (now (owners .exit)) (now (history .entry))) ⌝ }
 {
     let count = items.len() / 3;
     let lengths = storage::measure(archive, pool, groups, table, owners, history);
     let refusal = storage::admit_write_block(registers, lengths, count, answers.len());
     if refusal != 0 {
-        return Step { registers, refusal };
+        return Given {
+            used: registers.used,
+            refusal,
+        };
     }
-    let mut current = registers;
+    let mut used = registers.used;
     let mut i = 0;
     while i < count {
         let item = item_at(items, i);
-        let step = access::write_admitted(
+        let mut current = registers;
+        current.used = used;
+        let given = access::write_admitted(
             current,
             held,
             origins,
@@ -79,12 +85,9 @@ pub fn write_block(
             item.address,
             item.value,
         );
-        current = step.registers;
-        answers[i] = step.refusal;
+        used = given.used;
+        answers[i] = given.refusal;
         i = i + 1;
     }
-    Step {
-        registers: current,
-        refusal: 0,
-    }
+    Given { used, refusal: 0 }
 }

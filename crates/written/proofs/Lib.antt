@@ -12,3 +12,4 @@ pub mod Advancing
 pub mod Keeping
 pub mod Finding
 pub mod Unsetting
+pub mod Renewing

@@ -47,7 +47,7 @@ module _ (f g : ℕ) where
 
 -- One effective bit, in the form in which the code has it.
 module _ (w : Written) (l i f g : ℕ) (at-frame : f ≡ frameAt (w .frames) (w .omf) i) (at-group : g ≡ getD (w .groups) (placeOf (w .lines) (f / 16) l) 0) where
-  bit-is : effective w i l ≡ standing g (f % 16) i (boundOf (w .history) g)
+  pub bit-is : effective w i l ≡ standing g (f % 16) i (boundOf (w .history) g)
   unfolding effective
   bit-is =
       sym ((λ j. standing (at-group j) (f % 16) i (boundOf (w .history) (at-group j)))

@@ -6,7 +6,7 @@ use mathlib.Core.List.{List}
 use lib.Dec.{eqb, leb, ltb}
 use lib.ListN.{length, getD, set}
 use Rattle.rules.specs.Seen.{any, count}
-use Rattle.frames.specs.Circle.{frameAt}
+use Rattle.frames.specs.Circle.{indexOf, frameAt}
 use Rattle.numbers.specs.Digits.{setAt, unsetAt}
 use Rattle.lists.specs.Lists.{rewrite, rewriteFrom}
 use Rattle.written.specs.Bits.{Written, writtenOf, placeOf, tagged, boundOf, windowOf}
@@ -25,6 +25,11 @@ withWritten w tag l i =
     let at = placeOf (w .lines) (f / 16) l in
     let g = getD (w .groups) at 0 in
     set (w .groups) at (regrouped (w .frames) (w .omf) f (boundOf (w .history) g) tag g)
+
+-- A line that is written in a frame already, with the current tag: a group whose upper 16 bits are just that tag stays as it is.
+unfoldable pub renewed : Written → (tag line frame : ℕ) → List ℕ
+renewed w tag l f =
+    cond (eqb (getD (w .groups) (placeOf (w .lines) (f / 16) l) 0 / 65536) tag) (w .groups) (withWritten w tag l (indexOf (w .frames) (w .omf) f))
 
 -- Every used entry the deeper of itself and the target.
 unfoldable pub entered : (tag kept : ℕ) → List ℕ → List ℕ

@@ -8,7 +8,7 @@ ghost use lib.ListN.{length, getD};
 ghost use Rattle.rules.specs.Seen.{needs};
 ghost use Rattle.frames.specs.Circle.{Turn, indexOf};
 ghost use Rattle.written.specs.Bits.{writtenAt, AsksWritten, Asks, AsksBlock, AsksSet, Near, placeOf, boundOf, effective, newestFrom, newestRun, newestInArea, downOf, upOf, standsIn, runHas, blockHas, setIn, firstIndex, beforeWrap, afterWrap, cutOf, windowOf};
-ghost use Rattle.written.specs.Steps.{AsksWindow, AsksReset, regrouped, withWritten, Entered, settled, compared, sweptArea, swept, unsetIn, clearedBlock, lowerBound, lowered, RolledBack, blanked};
+ghost use Rattle.written.specs.Steps.{AsksWindow, AsksReset, regrouped, withWritten, renewed, Entered, settled, compared, sweptArea, swept, unsetIn, clearedBlock, lowerBound, lowered, RolledBack, blanked};
 
 // What places the lent lists: L, the circle of frames and OMF.
 pub struct Shape {
@@ -299,6 +299,20 @@ pub fn set(groups: &mut [u32], history: &[u16], shape: Shape, tag: u32, line: u3
     let bound = bound_of(history, group);
     let after = regroup(shape, group, bound, frame, tag);
     put_group(groups, shape, frame / 16, line, after);
+}
+
+// Gives a line that is written in a frame already the current tag. A group whose upper 16 bits are just that tag stays as it is; the upper
+// byte may hold anything, and is cleared with the rest.
+pub fn renew(groups: &mut [u32], history: &[u16], shape: Shape, tag: u32, line: u32, frame: u32)
+    requires { ⌜ (Asks (writtenAt shape (now groups) (now history)) line frame) × (tag < 256) ⌝ }
+    ensures { λ _. ⌜ now (groups .exit) ≡ renewed (writtenAt shape (now (groups .entry)) (now (history .entry))) tag line frame ⌝ }
+{
+    let group = group_at(groups, shape, frame / 16, line);
+    if group / 65536 == tag {
+        return;
+    }
+    let index = frames::index(shape.frames, shape.omf, frame);
+    set(groups, history, shape, tag, line, index);
 }
 
 // Enters a rollback that keeps so many frames: from the newest used entry of the history on, each that is less deep gets the target, up to

@@ -7,17 +7,17 @@ shape-requires : tie.Need-shape-requires
 shape-requires c κs = search needs
 
 newest-requires : tie.Need-newest-requires
-newest-requires c κs = let h : tie.After-shape = search in let s : tie.Start = search in rw (h .shape .ensures) (s .pre)
+newest-requires c κs = let h : tie.After-shape = search in let s : tie.Start = search in rw (h .shape .ensures) (s .pre .0)
 
-place-requires : tie.Need-place-requires
-place-requires c κs = search needs
+fill-requires : tie.Need-fill-requires
+fill-requires c κs = let s : tie.Start = search in s .pre .1
 
 returns : tie.Need-returns
 returns c =
-    let p : tie.After-place = search in
+    let p : tie.After-fill = search in
     let n : tie.After-newest = search in
     let h : tie.After-shape = search in
-    (rw (h .shape .ensures) at (n .newest .ensures), p .place .ensures)
+    (rw (h .shape .ensures) at (n .newest .ensures), p .fill .ensures)
 
 pub load-spec : {M : Type 1} → statement M
-load-spec = tie.close (tie.spec shape-requires newest-requires place-requires returns)
+load-spec = tie.close (tie.spec shape-requires newest-requires fill-requires returns)

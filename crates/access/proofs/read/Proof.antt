@@ -1,5 +1,5 @@
 -- `access::read` meets its contract. Assumes nothing.
-use mathlib.Core.Path.{refl}
+use mathlib.Core.Path.{refl, sym, _∙_}
 use Rattle.cache.proofs.Hits.{found-below}
 use Rattle.versions.specs.Newest.{originOf}
 use Rattle.storage.proofs.Admitting.{room-turn, room-newest}
@@ -13,14 +13,11 @@ returns : tie.Need-returns
 unfolding originOf
 returns c = read-refused _ _ _ _ _ (c .before .before .measure .ensures) (c .before .admit-place .ensures .0) (c .if1 .taken)
 
-line-at-requires : tie.Need-line-at-requires
-line-at-requires c κs = search found-below
-
 recall-requires : tie.Need-recall-requires
 recall-requires c κs = search found-below
 
-value-of-requires : tie.Need-value-of-requires
-value-of-requires c κs = let e : tie.Else1 = search in e .before .admit-place .ensures .1 (e .if1 .left) .bytes
+value-at-requires : tie.Need-value-at-requires
+value-at-requires c κs = let e : tie.Else1 = search in (search found-below, e .before .admit-place .ensures .1 (e .if1 .left) .bytes)
 
 live-requires : tie.Need-live-requires
 live-requires c κs = let e : tie.Else1 = search in room-turn _ _ (e .before .admit-place .ensures .1 (e .if1 .left) .room)
@@ -30,32 +27,33 @@ load-requires c κs =
     let l : tie.After-live = search in
     let e : tie.Else1 = search in
     let g = place-measured (e .before .before .measure .ensures) (e .before .admit-place .ensures .1 (e .if1 .left)) in
-    room-newest _ _ _ _ _ _ _ (g .room) _ _ (l .live .ensures) (g .line-below)
+    let f : tie.After-find = search in
+    let t : tie.After-enum-told = search in
+    (room-newest _ _ _ _ _ _ _ (g .room) _ _ (l .live .ensures) (g .line-below), sym (f .find .ensures) ∙ t .enum-told .given .1)
 
-value-of-requires-2 : tie.Need-value-of-requires-2
-value-of-requires-2 c κs = let e : tie.Else1 = search in e .before .admit-place .ensures .1 (e .if1 .left) .bytes
+value-of-requires : tie.Need-value-of-requires
+value-of-requires c κs = let e : tie.Else1 = search in e .before .admit-place .ensures .1 (e .if1 .left) .bytes
 
 returns-2 : tie.Need-returns-2
 returns-2 c =
-    let v : tie.After-value-of = search in
+    let v : tie.After-value-at = search in
     let u : tie.After-recall = search in
-    let b : tie.After-line-at = search in
     let n : tie.After-entry = search in
     let f : tie.After-find = search in
     let e : tie.Else1 = search in
     read-hits _ _ _ _ _ (e .before .before .measure .ensures) (e .before .admit-place .ensures .0) (e .if1 .left)
-    _ refl _ (f .find .ensures) _ (n .entry .given .1) _ (b .line-at .ensures) _ (v .value-of .ensures) _ (u .recall .ensures)
+    _ refl _ (f .find .ensures) _ (n .entry .given .1) _ refl _ (v .value-at .ensures) _ (u .recall .ensures)
 
 returns-3 : tie.Need-returns-3
 returns-3 c =
-    let v : tie.After-value-of2 = search in
+    let v : tie.After-value-of = search in
     let d : tie.After-load = search in
     let l : tie.After-live = search in
     let t : tie.After-enum-told = search in
     let f : tie.After-find = search in
     let e : tie.Else1 = search in
     read-misses _ _ _ _ _ (e .before .before .measure .ensures) (e .before .admit-place .ensures .0) (e .if1 .left)
-    _ (l .live .ensures) _ (f .find .ensures) (t .enum-told .given .1) _ (d .load .ensures .0) _ (v .value-of2 .ensures) _ (d .load .ensures .1)
+    _ (l .live .ensures) _ (f .find .ensures) (t .enum-told .given .1) _ (d .load .ensures .0) _ (v .value-of .ensures) _ (d .load .ensures .1)
 
 pub read-spec : {M : Type 1} → statement M
 read-spec =
@@ -66,12 +64,11 @@ read-spec =
     returns
     (λ c κs. search needs)
     (λ c. search needs)
-    line-at-requires
     recall-requires
-    value-of-requires
+    value-at-requires
     (λ c. search needs)
     live-requires
     load-requires
-    value-of-requires-2
+    value-of-requires
     returns-2
     returns-3)

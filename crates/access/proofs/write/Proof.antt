@@ -12,7 +12,7 @@ write-admitted-requires : tie.Need-write-admitted-requires
 write-admitted-requires c κs =
     let m = c .before .before .before .before .before in
     let e : tie.Else1 = m .before .before .before .before in
-    measured-none _ (e .before .before .measure .ensures) (e .before .admit .ensures .0) (e .if1 .left)
+    measured-none _ _ (e .before .before .measure .ensures) (e .before .admit .ensures .0) (e .if1 .left)
 
 pub write-spec : {M : Type 1} → statement M
 write-spec =

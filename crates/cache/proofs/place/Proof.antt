@@ -1,5 +1,5 @@
 -- `cache::place` meets its contract. Assumes nothing.
-use Rattle.cache.proofs.Returns.{placed-done}
+use Rattle.cache.proofs.Returns.{put-taken}
 use borrow.Author.Needs.{needs}
 use Rattle.cache.proofs.place.Statement.{statement}
 use Rattle.cache.proofs.place.Tie as tie
@@ -7,42 +7,11 @@ use Rattle.cache.proofs.place.Tie as tie
 way-for-requires : tie.Need-way-for-requires
 way-for-requires c κs = search needs
 
-mul-entry : tie.Need-mul-entry
-mul-entry c = search needs
-
-add-entry : tie.Need-add-entry
-add-entry c = search needs
-
-set-line-requires : tie.Need-set-line-requires
-set-line-requires c κs = search needs
-
-set-frame-requires : tie.Need-set-frame-requires
-set-frame-requires c κs = search needs
-
-set-valid-requires : tie.Need-set-valid-requires
-set-valid-requires c κs = search needs
-
-set-bytes-requires : tie.Need-set-bytes-requires
-set-bytes-requires c κs = search needs
-
-set-last-requires : tie.Need-set-last-requires
-set-last-requires c κs = search needs
+put-in-requires : tie.Need-put-in-requires
+put-in-requires c κs = search needs
 
 returns : tie.Need-returns
-returns c =
-    placed-done _ _ _ _ _ _ _ _ _ _ (c .before .before .before .before .before .before .before .before .before .before .way-for .ensures) (c .before .before .before .before .before .before .before .before .set-line .ensures) (c .before .before .before .before .before .before .set-frame .ensures) (c .before .before .before .before .set-valid .ensures)
-    (c .before .before .set-bytes .ensures) (c .set-last .ensures)
+returns c = let w : tie.After-way-for = search in put-taken _ _ _ _ _ _ (w .way-for .ensures) (c .put-in .ensures)
 
 pub place-spec : {M : Type 1} → statement M
-place-spec =
-    tie.close
-    (tie.spec
-    way-for-requires
-    mul-entry
-    add-entry
-    set-line-requires
-    set-frame-requires
-    set-valid-requires
-    set-bytes-requires
-    set-last-requires
-    returns)
+place-spec = tie.close (tie.spec way-for-requires put-in-requires returns)

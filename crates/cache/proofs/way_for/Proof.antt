@@ -1,5 +1,5 @@
 -- `cache::way_for` meets its contract. Assumes nothing.
-use Rattle.cache.proofs.Returns.{taken-first, taken-second, taken-free0, taken-free1, taken-older1, taken-older0}
+use Rattle.cache.proofs.Returns.{taken-first, taken-second, taken-free}
 use borrow.Author.Needs.{needs}
 use Rattle.cache.proofs.way_for.Statement.{statement}
 use Rattle.cache.proofs.way_for.Tie as tie
@@ -22,29 +22,11 @@ is-at-requires-2 c κs = search needs
 returns-2 : tie.Need-returns-2
 returns-2 c = (search taken-second, search needs)
 
-is-valid-requires : tie.Need-is-valid-requires
-is-valid-requires c κs = search needs
+free-way-requires : tie.Need-free-way-requires
+free-way-requires c κs = search needs
 
 returns-3 : tie.Need-returns-3
-returns-3 c = (search taken-free0, search needs)
-
-is-valid-requires-2 : tie.Need-is-valid-requires-2
-is-valid-requires-2 c κs = search needs
-
-returns-4 : tie.Need-returns-4
-returns-4 c = (search taken-free1, search needs)
-
-cast-at : tie.Need-cast-at
-cast-at c = search needs
-
-element-copy-out-if5 : tie.Need-element-copy-out-if5
-element-copy-out-if5 c = search needs
-
-returns-5 : tie.Need-returns-5
-returns-5 c = (search taken-older1, search needs)
-
-returns-6 : tie.Need-returns-6
-returns-6 c = (search taken-older0, search needs)
+returns-3 c = (search taken-free, search needs)
 
 pub way-for-spec : {M : Type 1} → statement M
 way-for-spec =
@@ -56,11 +38,5 @@ way-for-spec =
     returns
     is-at-requires-2
     returns-2
-    is-valid-requires
-    returns-3
-    is-valid-requires-2
-    returns-4
-    cast-at
-    element-copy-out-if5
-    returns-5
-    returns-6)
+    free-way-requires
+    returns-3)

@@ -1,6 +1,6 @@
 -- `storage::place_refusal` meets its contract. Assumes nothing.
 use borrow.Author.Needs.{needs}
-use Rattle.storage.proofs.Chains.{place-width, width-some, place-aligned, width-in, place-past, place-passes}
+use Rattle.storage.proofs.Chains.{of-width, place-width, place-aligned, width-in, place-past, place-passes}
 use Rattle.storage.proofs.place_refusal.Statement.{statement}
 use Rattle.storage.proofs.place_refusal.Tie as tie
 
@@ -10,8 +10,8 @@ is-width-requires c κs = search needs
 returns : tie.Need-returns
 returns c = search place-width
 
-rem-if2 : tie.Need-rem-if2
-rem-if2 c = search width-some
+remainder-requires : tie.Need-remainder-requires
+remainder-requires c κs = search of-width
 
 returns-2 : tie.Need-returns-2
 returns-2 c = search place-aligned
@@ -29,4 +29,4 @@ returns-4 : tie.Need-returns-4
 returns-4 c = search place-passes
 
 pub place-refusal-spec : {M : Type 1} → statement M
-place-refusal-spec = tie.close (tie.spec is-width-requires returns rem-if2 returns-2 mul-if3 sub-if3 returns-3 returns-4)
+place-refusal-spec = tie.close (tie.spec is-width-requires returns remainder-requires returns-2 mul-if3 sub-if3 returns-3 returns-4)

@@ -15,7 +15,7 @@ returns : tie.Need-returns
 returns c = check-refused _ _ _ (c .before .before .measure .ensures) (c .before .admit .ensures .0) (c .if1 .taken)
 
 is-well-requires : tie.Need-is-well-requires
-is-well-requires c κs = measured-none _ (c .before .before .measure .ensures) (c .before .admit .ensures .0) (c .if1 .left)
+is-well-requires c κs = measured-none _ _ (c .before .before .measure .ensures) (c .before .admit .ensures .0) (c .if1 .left)
 
 returns-2 : tie.Need-returns-2
 returns-2 c =

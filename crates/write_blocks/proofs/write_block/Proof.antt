@@ -7,23 +7,24 @@ use borrow.Author.Needs.{needs}
 use Rattle.rules.specs.Settings.{Pieces}
 use Rattle.cache.specs.Entries.{cacheOf}
 use Rattle.storage.specs.Storage.{stateOf, storageOf}
+use Rattle.storage.specs.Steps.{givenRegisters}
 use Rattle.write_blocks.proofs.Doing.{Doing, doing-start, doing-next, write-block-refused, write-block-done}
 use Rattle.write_blocks.proofs.write_block.Statement.{statement}
 use Rattle.write_blocks.proofs.write_block.Tie as tie
 
 abbrev Inv-loop : tie.InvT-loop
-Inv-loop held₀ origins₀ valid₀ bytes₀ last₀ archive pool₀ groups₀ table₀ owners₀ history items answers₀ count refusal current₀ i₀ held origins valid bytes last pool groups table owners answers current i =
+Inv-loop registers held₀ origins₀ valid₀ bytes₀ last₀ archive pool₀ groups₀ table₀ owners₀ history items answers₀ count refusal used₀ i₀ held origins valid bytes last pool groups table owners answers used i =
     (length answers₀ * 4 < 18446744073709551616)
-    × Doing (storageOf (stateOf current₀ (cacheOf held₀ origins₀ valid₀ bytes₀ last₀)) archive pool₀ groups₀ table₀ owners₀ history) items answers₀ i
-    (storageOf (stateOf current (cacheOf held origins valid bytes last)) archive pool groups table owners history) answers
+    × Doing (storageOf (stateOf registers (cacheOf held₀ origins₀ valid₀ bytes₀ last₀)) archive pool₀ groups₀ table₀ owners₀ history) items answers₀ i
+    (storageOf (stateOf (givenRegisters registers used) (cacheOf held origins valid bytes last)) archive pool groups table owners history) answers
 
 abbrev μ-loop : tie.MeasureT-loop
-μ-loop held₀ origins₀ valid₀ bytes₀ last₀ archive pool₀ groups₀ table₀ owners₀ history items answers₀ count refusal current₀ i₀ held origins valid bytes last pool groups table owners answers current i =
+μ-loop registers held₀ origins₀ valid₀ bytes₀ last₀ archive pool₀ groups₀ table₀ owners₀ history items answers₀ count refusal used₀ i₀ held origins valid bytes last pool groups table owners answers used i =
     count - i
 
 -- the places of a turn, each from a later one
-abbrev written-at : tie.After-current Inv-loop μ-loop → tie.After-write-admitted Inv-loop μ-loop
-written-at p = let m = p .before .before .before .before .before in m .before .before .before .before
+abbrev written-at : tie.After-slice-known9 Inv-loop μ-loop → tie.After-write-admitted Inv-loop μ-loop
+written-at p = let m = p .before .before .before .before in m .before .before .before .before
 
 abbrev item-at : tie.After-write-admitted Inv-loop μ-loop → tie.After-item-at Inv-loop μ-loop
 item-at p = let m = p .before .before .before .before .before in m .before .before .before .before .before

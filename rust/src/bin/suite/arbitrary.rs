@@ -12,17 +12,19 @@ use crate::stored::Stored;
 use crate::tally::Tally;
 use crate::wellformed::{facts, settings_of, Clause, CLAUSES, OPEN};
 use crate::world::{random_storage, small_settings, World};
+use crate::wrote::{wrote_on_well, Finds};
 use vcm::calls;
 use vcm::{Registers, State};
 
 /// The kinds of calls: the nine of a script, and RESET.
 const KINDS: usize = 10;
 
-/// What was done, where ROLLBACK's walks stopped, how often each clause alone turned storage down, and how often a call of each kind was accepted
-/// with both ring registers past the pool.
+/// What was done, where ROLLBACK's walks stopped, where WRITEs found their lines, how often each clause alone turned storage down, and how often a
+/// call of each kind was accepted with both ring registers past the pool.
 pub struct Judge {
     pub tally: Tally,
     pub stops: Stops,
+    pub finds: Finds,
     alone: [u64; CLAUSES.len()],
     past_ends: [u64; KINDS],
 }
@@ -152,7 +154,8 @@ pub fn is_kept(stored: &Stored, before: &Stored, call: Call, need: Lengths) -> R
     ring_on_any(before, stored, call)
 }
 
-/// What an accepted call leaves where the storage was well-formed, or after RESET: storage of the history that is due.
+/// What an accepted call leaves where the storage was well-formed, or after RESET: storage of the history that is due, and after WRITE just
+/// the state and memory that are due.
 fn is_right(stored: &Stored, before: &Stored, call: Call, known: Known) -> Result<(), String> {
     let asked = settings_after(&known, call);
     let plain = match (known.history, call) {
@@ -166,6 +169,9 @@ fn is_right(stored: &Stored, before: &Stored, call: Call, known: Known) -> Resul
                 return Err("CMF or OMF is wrong".to_string());
             }
             ring_on_well(before, stored, call)?;
+            if let Some(item) = call.item() {
+                wrote_on_well(before, stored, item)?;
+            }
             plain
         }
         (None, _) => return Ok(()),
@@ -202,6 +208,9 @@ impl Judge {
         is_kept(stored, &before, call, need).map_err(fail)?;
         if let Call::Rollback(k) = call {
             self.stops.add(&before, k);
+        }
+        if let (Some(item), Some(_)) = (call.item(), &known.history) {
+            self.finds.add(&before, item);
         }
         is_right(stored, &before, call, known).map_err(fail)?;
         Ok(given)
@@ -339,6 +348,7 @@ pub fn run(worlds: u32, rows: u32) -> Result<Judge, String> {
     let mut judge = Judge {
         tally: Tally::default(),
         stops: Stops::default(),
+        finds: Finds::default(),
         alone: [0; CLAUSES.len()],
         past_ends: [0; KINDS],
     };

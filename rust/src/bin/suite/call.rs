@@ -38,6 +38,22 @@ impl Call {
             value: item.value,
         }
     }
+
+    /// A WRITE as an item.
+    pub fn item(self) -> Option<Item> {
+        match self {
+            Call::Write {
+                width,
+                address,
+                value,
+            } => Some(Item {
+                width,
+                address,
+                value,
+            }),
+            _ => None,
+        }
+    }
 }
 
 #[derive(Clone, Copy, Debug, PartialEq, Eq)]

@@ -17,10 +17,14 @@ impl Stored {
                     *entry = rng.pick(&[0, 1, OPEN, OPEN - 1, rng.short()]);
                 }
             }
-            // what lies above a group's tag
+            // what lies above the tag of one group, or of all
             2 => {
                 let groups = self.memory.groups.get_mut();
-                groups[rng.place(groups.len())] ^= rng.word() & 0xFF00_0000;
+                let one = rng.place(groups.len());
+                let (from, count) = rng.pick(&[(one, 1), (0, groups.len())]);
+                for group in &mut groups[from..from + count] {
+                    *group ^= rng.word() & 0xFF00_0000;
+                }
             }
             // the tag of a group without bits
             3 => {

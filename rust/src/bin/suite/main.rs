@@ -25,6 +25,7 @@ mod wellformed;
 mod world;
 mod wrapper;
 mod write_block;
+mod wrote;
 
 use std::panic::catch_unwind;
 use std::process::ExitCode;
@@ -78,8 +79,11 @@ fn suite(size: Size) -> Result<Tally, String> {
     let judge = arbitrary::run(size.worlds, size.row)?;
     println!("turned down by one clause alone: {}", judge.clauses()?);
     println!("{}", judge.stops.words()?);
+    println!("{}", judge.finds.words()?);
     done("arbitrary", &judge.tally);
-    done("blocks", &write_block::run(size.blocks)?);
+    let blocks = write_block::run(size.blocks)?;
+    println!("in blocks, {}", blocks.finds.words()?);
+    done("blocks", &blocks.tally);
     if !all.is_balanced() {
         return Err(format!("too few CHECKs say yes: {all}"));
     }

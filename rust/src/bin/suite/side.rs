@@ -1,12 +1,14 @@
-//! The library side by side with the plain store: long random runs, every answer compared.
+//! The library side by side with the plain store: long random runs, every answer compared, and of some WRITEs all that they leave.
 use crate::call::{ask, ask_block, Answer, Call};
 use crate::memory::{Lengths, Memory};
 use crate::plain::{Plain, Settings};
 use crate::rng::Rng;
 use crate::script::{bad_settings, settings, Script};
 use crate::spot;
+use crate::stored::Stored;
 use crate::tally::Tally;
 use crate::wellformed::{facts, Storage};
+use crate::wrote::wrote_on_well;
 use std::fmt;
 use vcm::calls;
 use vcm::{Item, State};
@@ -27,6 +29,13 @@ impl Pair {
             memory,
             plain: Plain::blank(),
             first: 0,
+        }
+    }
+
+    fn stored(&self) -> Stored {
+        Stored {
+            state: self.state,
+            memory: self.memory.clone(),
         }
     }
 
@@ -165,7 +174,13 @@ fn run(seed: u64, first: Settings, steps: u32, tally: &mut Tally) -> Result<(), 
             }
             _ => {}
         }
-        pair.step(call, tally).map_err(|words| fail(step, words))?;
+        // a copy of all memory is slow
+        let judged = call.item().filter(|_| rng.one_in(128 * seldom));
+        let judged = judged.map(|item| (item, pair.stored()));
+        let given = pair.step(call, tally).map_err(|words| fail(step, words))?;
+        if let (Some((item, before)), 0) = (judged, given.refusal()) {
+            wrote_on_well(&before, &pair.stored(), item).map_err(|words| fail(step, words))?;
+        }
         most = most.most(Lengths::of(pair.plain.settings));
         if rng.one_in(seldom) {
             pair.step(Call::Counts, tally)

@@ -1,6 +1,7 @@
 //! A block of writes on twins: of two stores with the same bytes one is given the block and the other its items as single WRITEs. Answers,
 //! state and every lent byte, guards included, have to be the same afterwards, on the storage of a run, damaged or random. Which answers
-//! are due is the plain store's word where the storage is well-formed, and elsewhere that of the plain rules, which leave 13 open.
+//! are due is the plain store's word where the storage is well-formed, and elsewhere that of the plain rules, which leave 13 open. What the
+//! accepted items leave is fixed where the storage is well-formed (`wrote`).
 use crate::arbitrary::{changed, is_kept, is_untouched, know};
 use crate::call::{ask, ask_block, Call};
 use crate::memory::{Lengths, Memory, Piece};
@@ -14,6 +15,7 @@ use crate::stored::Stored;
 use crate::tally::{Tally, IN_BLOCKS};
 use crate::wellformed::facts;
 use crate::world::{random_storage, World};
+use crate::wrote::{self, Finds};
 use vcm::{calls, Item};
 
 /// The most items of a block of writes.
@@ -22,10 +24,11 @@ const MOST: u32 = 200;
 /// What stands in an answer list before the call.
 const BEFORE: u32 = 0xA5A5_A5A5;
 
-/// What was done, and how often an item was accepted behind one that got 13.
+/// What was done, where items found their lines, and how often an item was accepted behind one that got 13.
 #[derive(Default)]
-struct Judge {
-    tally: Tally,
+pub struct Judge {
+    pub tally: Tally,
+    pub finds: Finds,
     behind_full: u64,
 }
 
@@ -115,7 +118,7 @@ impl Judge {
         let mut twin = before.clone();
         let numbers = singly(&mut twin, items, &mut self.tally);
         are_twins(after, &twin)?;
-        is_right(before, after, items, &numbers)?;
+        self.is_right(before, after, items, &numbers)?;
         self.count_full(&numbers);
         Ok(numbers)
     }
@@ -126,6 +129,53 @@ impl Judge {
         if behind.contains(&0) {
             self.behind_full += 1;
         }
+    }
+
+    /// What the plain rules and, on well-formed storage, the plain store and the definition of WRITE say of a block that was not refused as a
+    /// whole.
+    fn is_right(
+        &mut self,
+        before: &Stored,
+        after: &Stored,
+        items: &[Item],
+        numbers: &[u32],
+    ) -> Result<(), String> {
+        let known = know(before);
+        let mut pairs = items.iter().zip(numbers);
+        pairs.try_for_each(|(item, number)| is_due(known.facts, *item, *number))?;
+        let any = Call::of(Item::u8(0, 0));
+        is_kept(after, before, any, Lengths::of(known.facts.settings))?;
+        let mut plain = match known.history {
+            Some(plain) => plain,
+            None => return Ok(()),
+        };
+        let mut expected = vec![BEFORE; items.len()];
+        plain.block(items, &mut expected, known.facts.lengths);
+        if numbers != expected {
+            return Err(format!("{numbers:?}, the plain store {expected:?}"));
+        }
+        self.is_written(before, after, items, numbers)?;
+        match know(after).history {
+            Some(history) if history.is_same(&plain) => Ok(()),
+            _ => Err("the storage is not of the plain store's history or cache".to_string()),
+        }
+    }
+
+    /// The accepted items in order leave just the state and memory that are due. Only for well-formed storage.
+    fn is_written(
+        &mut self,
+        before: &Stored,
+        after: &Stored,
+        items: &[Item],
+        numbers: &[u32],
+    ) -> Result<(), String> {
+        let mut due = before.clone();
+        let pairs = items.iter().zip(numbers);
+        for (item, _) in pairs.filter(|(_, number)| **number == 0) {
+            self.finds.add(&due, *item);
+            wrote::write(&mut due, *item);
+        }
+        wrote::is_as_due(after, &due)
     }
 
     /// A random block with a random answer list: mostly just long enough, or longer, or too short.
@@ -146,33 +196,6 @@ impl Judge {
         };
         self.block(stored, &items, list(room, rng))?;
         Ok(())
-    }
-}
-
-/// What the plain rules and, on well-formed storage, the plain store say of a block that was not refused as a whole.
-fn is_right(
-    before: &Stored,
-    after: &Stored,
-    items: &[Item],
-    numbers: &[u32],
-) -> Result<(), String> {
-    let known = know(before);
-    let mut pairs = items.iter().zip(numbers);
-    pairs.try_for_each(|(item, number)| is_due(known.facts, *item, *number))?;
-    let any = Call::of(Item::u8(0, 0));
-    is_kept(after, before, any, Lengths::of(known.facts.settings))?;
-    let mut plain = match known.history {
-        Some(plain) => plain,
-        None => return Ok(()),
-    };
-    let mut expected = vec![BEFORE; items.len()];
-    plain.block(items, &mut expected, known.facts.lengths);
-    if numbers != expected {
-        return Err(format!("{numbers:?}, the plain store {expected:?}"));
-    }
-    match know(after).history {
-        Some(history) if history.is_same(&plain) => Ok(()),
-        _ => Err("the storage is not of the plain store's history or cache".to_string()),
     }
 }
 
@@ -320,7 +343,7 @@ impl Judge {
     }
 }
 
-pub fn run(worlds: u32) -> Result<Tally, String> {
+pub fn run(worlds: u32) -> Result<Judge, String> {
     let mut judge = Judge::default();
     for number in 0..worlds {
         let seed = 0xB10C_0000 + u64::from(number);
@@ -337,5 +360,5 @@ pub fn run(worlds: u32) -> Result<Tally, String> {
     if judge.behind_full == 0 {
         return Err("no item was accepted behind one that got 13".to_string());
     }
-    Ok(judge.tally)
+    Ok(judge)
 }

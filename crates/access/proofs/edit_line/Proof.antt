@@ -1,0 +1,64 @@
+-- `access::edit_line` meets its contract. Assumes nothing.
+use Rattle.storage.proofs.Editing.{edit-told}
+use native.Mathlib.Omega.{arith}
+use borrow.Author.Needs.{needs}
+use Rattle.access.proofs.edit_line.Statement.{statement}
+use Rattle.access.proofs.edit_line.Tie as tie
+
+shape-requires : tie.Need-shape-requires
+shape-requires c κs = search needs
+
+page-at-requires : tie.Need-page-at-requires
+page-at-requires c κs = let s : tie.Start = search in let h : tie.After-shape = search in rw (h .shape .ensures) (s .pre .named)
+
+sub-min : tie.Need-sub-min
+sub-min c = search needs
+
+min-requires : tie.Need-min-requires
+min-requires c κs = search needs
+
+edit-page-line-requires : tie.Need-edit-page-line-requires
+edit-page-line-requires c κs = search needs
+
+edit-at-requires : tie.Need-edit-at-requires
+edit-at-requires c κs = search needs
+
+renew-requires : tie.Need-renew-requires
+renew-requires c κs = let s : tie.Start = search in let h : tie.After-shape = search in (rw (h .shape .ensures) (s .pre .written), omega arith)
+
+recall-requires : tie.Need-recall-requires
+recall-requires c κs = let s : tie.Start = search in s .pre .entry-few
+
+same-length : tie.Need-same-length
+same-length c = search needs
+
+same-length-2 : tie.Need-same-length-2
+same-length-2 c = search needs
+
+returns : tie.Need-returns
+returns c =
+    let g : tie.After-renew = search in
+    let b : tie.After-edit-at = search in
+    let p : tie.After-edit-page-line = search in
+    let m : tie.After-min = p .before .before in
+    let n : tie.After-page-at = m .before .before in
+    let h : tie.After-shape = n .before in
+    let s : tie.Start = h .before .before .before .before .before in
+    let t = edit-told (s .args .registers) _ _ _ _ _ (s .args .table .now) _ _ (h .shape .ensures) _ (n .page-at .ensures) _ (m .min .ensures) _ _ (p .edit-page-line .ensures) (g .renew .ensures) in
+    (b .edit-at .ensures, (c .recall .ensures, (t .0, t .1)))
+
+pub edit-line-spec : {M : Type 1} → statement M
+edit-line-spec =
+    tie.close
+    (tie.spec
+    shape-requires
+    page-at-requires
+    sub-min
+    min-requires
+    edit-page-line-requires
+    edit-at-requires
+    renew-requires
+    recall-requires
+    same-length
+    same-length-2
+    returns)

@@ -31,7 +31,7 @@
 #include <stdint.h>
 
 /* CHANGELOG.md says what each version brought. */
-#define VCM_VERSION "0.3.1"
+#define VCM_VERSION "0.4.0"
 
 /* A program does not compile where a struct has another size than in libvcm.a. C99 has no assertion for that, but there too an array of
  * negative size is an error. */

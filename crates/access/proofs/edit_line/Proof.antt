@@ -5,35 +5,14 @@ use borrow.Author.Needs.{needs}
 use Rattle.access.proofs.edit_line.Statement.{statement}
 use Rattle.access.proofs.edit_line.Tie as tie
 
-shape-requires : tie.Need-shape-requires
-shape-requires c κs = search needs
-
 page-at-requires : tie.Need-page-at-requires
 page-at-requires c κs = let s : tie.Start = search in let h : tie.After-shape = search in rw (h .shape .ensures) (s .pre .named)
-
-sub-min : tie.Need-sub-min
-sub-min c = search needs
-
-min-requires : tie.Need-min-requires
-min-requires c κs = search needs
-
-edit-page-line-requires : tie.Need-edit-page-line-requires
-edit-page-line-requires c κs = search needs
-
-edit-at-requires : tie.Need-edit-at-requires
-edit-at-requires c κs = search needs
 
 renew-requires : tie.Need-renew-requires
 renew-requires c κs = let s : tie.Start = search in let h : tie.After-shape = search in (rw (h .shape .ensures) (s .pre .written), omega arith)
 
 recall-requires : tie.Need-recall-requires
 recall-requires c κs = let s : tie.Start = search in s .pre .entry-few
-
-same-length : tie.Need-same-length
-same-length c = search needs
-
-same-length-2 : tie.Need-same-length-2
-same-length-2 c = search needs
 
 returns : tie.Need-returns
 returns c =
@@ -51,14 +30,14 @@ pub edit-line-spec : {M : Type 1} → statement M
 edit-line-spec =
     tie.close
     (tie.spec
-    shape-requires
+    (λ c κs. search needs)
     page-at-requires
-    sub-min
-    min-requires
-    edit-page-line-requires
-    edit-at-requires
+    (λ c. search needs)
+    (λ c κs. search needs)
+    (λ c κs. search needs)
+    (λ c κs. search needs)
     renew-requires
     recall-requires
-    same-length
-    same-length-2
+    (λ c. search needs)
+    (λ c. search needs)
     returns)

@@ -11,9 +11,6 @@ use Rattle.access.proofs.line_admitted.Tie as tie
 live-requires : tie.Need-live-requires
 live-requires c κs = let s : tie.Start = search in let g = line-room _ _ _ _ (sym (s .pre)) refl in room-turn _ _ (g .room)
 
-shape-requires : tie.Need-shape-requires
-shape-requires c κs = search needs
-
 sub-search : tie.Need-sub-search
 sub-search c = let s : tie.Start = search in let l : tie.After-live = search in let g = line-room _ _ _ _ (sym (s .pre)) refl in omega (arith, g .room .live-some, l .live .ensures)
 
@@ -34,9 +31,6 @@ locate-requires c κs =
     let g = line-room _ _ _ _ (sym (s .pre)) refl in
     rw (h .shape .ensures) (line-spot _ _ _ g _ (l .live .ensures) _ _ _ (rw (h .shape .ensures) at (c .search .ensures)))
 
-enum-known-page : tie.Need-enum-known-page
-enum-known-page c = search needs
-
 page-line-requires : tie.Need-page-line-requires
 page-line-requires c κs =
     let s : tie.Start = search in
@@ -45,9 +39,6 @@ page-line-requires c κs =
     let h : tie.After-shape = search in
     let g = line-room _ _ _ _ (sym (s .pre)) refl in
     line-content _ _ _ g _ _ _ (rw (h .shape .ensures) at (f .locate .ensures)) .page _ (p .page .given .1)
-
-enum-told : tie.Need-enum-told
-enum-told c = search needs
 
 archive-line-requires : tie.Need-archive-line-requires
 archive-line-requires c κs =
@@ -84,13 +75,13 @@ line-admitted-spec =
     tie.close
     (tie.spec
     live-requires
-    shape-requires
+    (λ c κs. search needs)
     sub-search
     search-requires
     locate-requires
-    enum-known-page
+    (λ c. search needs)
     page-line-requires
-    enum-told
+    (λ c. search needs)
     archive-line-requires
     returns
     returns-2)

@@ -4,14 +4,8 @@ use Rattle.storage.proofs.Looking.{companion}
 use Rattle.access.proofs.line_refusal.Statement.{statement}
 use Rattle.access.proofs.line_refusal.Tie as tie
 
-measure-requires : tie.Need-measure-requires
-measure-requires c κs = search needs
-
-admit-line-requires : tie.Need-admit-line-requires
-admit-line-requires c κs = search needs
-
 returns : tie.Need-returns
 returns c _ = companion _ _ _ _ (c .before .measure .ensures) (c .admit-line .ensures .0)
 
 pub line-refusal-spec : {M : Type 1} → statement M
-line-refusal-spec = tie.close (tie.spec measure-requires admit-line-requires returns)
+line-refusal-spec = tie.close (tie.spec (λ c κs. search needs) (λ c κs. search needs) returns)

@@ -3,9 +3,6 @@ use borrow.Author.Needs.{needs}
 use Rattle.access.proofs.load.Statement.{statement}
 use Rattle.access.proofs.load.Tie as tie
 
-shape-requires : tie.Need-shape-requires
-shape-requires c κs = search needs
-
 newest-requires : tie.Need-newest-requires
 newest-requires c κs = let h : tie.After-shape = search in let s : tie.Start = search in rw (h .shape .ensures) (s .pre .0)
 
@@ -20,4 +17,4 @@ returns c =
     (rw (h .shape .ensures) at (n .newest .ensures), p .fill .ensures)
 
 pub load-spec : {M : Type 1} → statement M
-load-spec = tie.close (tie.spec shape-requires newest-requires fill-requires returns)
+load-spec = tie.close (tie.spec (λ c κs. search needs) newest-requires fill-requires returns)

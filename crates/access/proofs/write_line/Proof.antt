@@ -13,17 +13,11 @@ start-at l = let m = l .before .before .before .before in m .before .before .bef
 live-requires : tie.Need-live-requires
 live-requires c κs = let s : tie.Start = search in room-turn _ _ (room-passed _ _ (s .pre .0))
 
-ring-requires : tie.Need-ring-requires
-ring-requires c κs = search needs
-
 page-for-requires : tie.Need-page-for-requires
 page-for-requires c κs =
     let s : tie.Start = search in
     let r : tie.After-ring = search in
     write-page-asks _ _ _ _ _ _ (s .pre .0) (sym (s .pre .1)) refl _ _ _ (r .ring .ensures)
-
-enum-known-found : tie.Need-enum-known-found
-enum-known-found c = search needs
 
 put-value-requires : tie.Need-put-value-requires
 put-value-requires c κs =
@@ -34,21 +28,6 @@ put-value-requires c κs =
     let l : tie.After-live = search in
     asks-write _ _ _ _ _ (s .pre .0) (sym (s .pre .1)) refl _ (r .ring .ensures) _ (p .page-for .ensures .0) _ _ (l .live .ensures) (f .found .given .1)
 
-enum-told : tie.Need-enum-told
-enum-told c = search needs
-
-same-length : tie.Need-same-length
-same-length c = search needs
-
-same-length-2 : tie.Need-same-length-2
-same-length-2 c = search needs
-
-same-length-3 : tie.Need-same-length-3
-same-length-3 c = search needs
-
-same-length-4 : tie.Need-same-length-4
-same-length-4 c = search needs
-
 returns : tie.Need-returns
 returns c =
     let v : tie.After-put-value = search in
@@ -58,12 +37,6 @@ returns c =
     let l : tie.After-live = r .before in
     let s = start-at l in
     write-done _ _ _ _ _ (s .pre .0) (sym (s .pre .1)) refl _ (r .ring .ensures) _ (p .page-for .ensures .0) _ (f .found .given .1) _ (l .live .ensures) _ _ (v .put-value .ensures) _ (p .page-for .ensures .1)
-
-same-length-5 : tie.Need-same-length-5
-same-length-5 c = search needs
-
-same-length-6 : tie.Need-same-length-6
-same-length-6 c = search needs
 
 returns-2 : tie.Need-returns-2
 returns-2 c =
@@ -77,16 +50,16 @@ write-line-spec =
     tie.close
     (tie.spec
     live-requires
-    ring-requires
+    (λ c κs. search needs)
     page-for-requires
-    enum-known-found
+    (λ c. search needs)
     put-value-requires
-    enum-told
-    same-length
-    same-length-2
-    same-length-3
-    same-length-4
+    (λ c. search needs)
+    (λ c. search needs)
+    (λ c. search needs)
+    (λ c. search needs)
+    (λ c. search needs)
     returns
-    same-length-5
-    same-length-6
+    (λ c. search needs)
+    (λ c. search needs)
     returns-2)

@@ -10,26 +10,8 @@ use native.Mathlib.Omega.{arith}
 use Rattle.marks.proofs.advance.Statement.{statement}
 use Rattle.marks.proofs.advance.Tie as tie
 
-measure-requires : tie.Need-measure-requires
-measure-requires c κs = search needs
-
-admit-frames-requires : tie.Need-admit-frames-requires
-admit-frames-requires c κs = search needs
-
-same-length : tie.Need-same-length
-same-length c = search needs
-
-same-length-2 : tie.Need-same-length-2
-same-length-2 c = search needs
-
-same-length-3 : tie.Need-same-length-3
-same-length-3 c = search needs
-
 returns : tie.Need-returns
 returns c = λ _ _ _ _. advance-refused _ _ _ _ (c .before .before .measure .ensures) (c .before .admit-frames .ensures .0) (c .if1 .taken)
-
-ring-requires : tie.Need-ring-requires
-ring-requires c κs = search needs
 
 fold-requires : tie.Need-fold-requires
 fold-requires c κs =
@@ -75,15 +57,6 @@ nth-page-requires c κs =
 sub-registers : tie.Need-sub-registers
 sub-registers c = let f : tie.After-fold = search in omega (arith, f .fold .ensures .0 .few)
 
-same-length-4 : tie.Need-same-length-4
-same-length-4 c = search needs
-
-same-length-5 : tie.Need-same-length-5
-same-length-5 c = search needs
-
-same-length-6 : tie.Need-same-length-6
-same-length-6 c = search needs
-
 returns-2 : tie.Need-returns-2
 returns-2 c =
     let n : tie.After-nth-page = search in
@@ -103,13 +76,13 @@ pub advance-spec : {M : Type 1} → statement M
 advance-spec =
     tie.close
     (tie.spec
-    measure-requires
-    admit-frames-requires
-    same-length
-    same-length-2
-    same-length-3
+    (λ c κs. search needs)
+    (λ c κs. search needs)
+    (λ c. search needs)
+    (λ c. search needs)
+    (λ c. search needs)
     returns
-    ring-requires
+    (λ c κs. search needs)
     fold-requires
     clear-requires
     cast-lower
@@ -119,7 +92,7 @@ advance-spec =
     rem-omf
     nth-page-requires
     sub-registers
-    same-length-4
-    same-length-5
-    same-length-6
+    (λ c. search needs)
+    (λ c. search needs)
+    (λ c. search needs)
     returns-2)

@@ -7,20 +7,11 @@ use borrow.Author.Needs.{needs}
 use Rattle.marks.proofs.counts.Statement.{statement}
 use Rattle.marks.proofs.counts.Tie as tie
 
-measure-requires : tie.Need-measure-requires
-measure-requires c κs = search needs
-
-admit-requires : tie.Need-admit-requires
-admit-requires c κs = search needs
-
 returns : tie.Need-returns
 returns c = λ _. counts-refused _ _ _ (c .before .before .measure .ensures) (c .before .admit .ensures .0) (c .if1 .taken)
 
 live-requires : tie.Need-live-requires
 live-requires c κs = room-turn _ _ (c .before .admit .ensures .1 (c .if1 .left))
-
-ring-requires : tie.Need-ring-requires
-ring-requires c κs = search needs
 
 returns-2 : tie.Need-returns-2
 returns-2 c =
@@ -32,4 +23,4 @@ returns-2 c =
 pub counts-spec : {M : Type 1} → statement M
 counts-spec =
     tie.close
-    (tie.spec measure-requires admit-requires returns live-requires ring-requires returns-2)
+    (tie.spec (λ c κs. search needs) (λ c κs. search needs) returns live-requires (λ c κs. search needs) returns-2)

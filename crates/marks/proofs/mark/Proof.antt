@@ -5,12 +5,6 @@ use borrow.Author.Needs.{needs}
 use Rattle.marks.proofs.mark.Statement.{statement}
 use Rattle.marks.proofs.mark.Tie as tie
 
-measure-requires : tie.Need-measure-requires
-measure-requires c κs = search needs
-
-admit-mark-requires : tie.Need-admit-mark-requires
-admit-mark-requires c κs = search needs
-
 returns : tie.Need-returns
 returns c = λ _. mark-refused _ _ _ (c .before .before .measure .ensures) (c .before .admit-mark .ensures .0) (c .if1 .taken)
 
@@ -24,4 +18,4 @@ returns-2 c =
     λ _. mark-opens _ _ _ (e .before .before .measure .ensures) (e .before .admit-mark .ensures .0) (e .if1 .left) _ (n .next .ensures)
 
 pub mark-spec : {M : Type 1} → statement M
-mark-spec = tie.close (tie.spec measure-requires admit-mark-requires returns next-requires returns-2)
+mark-spec = tie.close (tie.spec (λ c κs. search needs) (λ c κs. search needs) returns next-requires returns-2)

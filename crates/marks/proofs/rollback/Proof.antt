@@ -9,18 +9,6 @@ use native.Mathlib.Omega.{arith}
 use Rattle.marks.proofs.rollback.Statement.{statement}
 use Rattle.marks.proofs.rollback.Tie as tie
 
-measure-requires : tie.Need-measure-requires
-measure-requires c κs = search needs
-
-admit-frames-requires : tie.Need-admit-frames-requires
-admit-frames-requires c κs = search needs
-
-same-length : tie.Need-same-length
-same-length c = search needs
-
-same-length-2 : tie.Need-same-length-2
-same-length-2 c = search needs
-
 returns : tie.Need-returns
 returns c = λ _ _ _. rollback-refused _ _ _ _ (c .before .before .measure .ensures) (c .before .admit-frames .ensures .0) (c .if1 .taken)
 
@@ -29,9 +17,6 @@ live-requires c κs = room-turn _ _ (c .before .admit-frames .ensures .1 (c .if1
 
 sub-kept : tie.Need-sub-kept
 sub-kept c = let e : tie.Else1 = search in omega (arith, e .before .admit-frames .ensures .1 (e .if1 .left), c .live .ensures)
-
-ring-requires : tie.Need-ring-requires
-ring-requires c κs = search needs
 
 pages-below-requires : tie.Need-pages-below-requires
 pages-below-requires c κs =
@@ -63,12 +48,6 @@ sub-cmf c = let e : tie.Else1 = search in omega (arith, e .before .admit-frames 
 rem-cmf : tie.Need-rem-cmf
 rem-cmf c = let e : tie.Else1 = search in omega (arith, e .before .admit-frames .ensures .1 (e .if1 .left))
 
-same-length-3 : tie.Need-same-length-3
-same-length-3 c = search needs
-
-same-length-4 : tie.Need-same-length-4
-same-length-4 c = search needs
-
 returns-2 : tie.Need-returns-2
 returns-2 c =
     let b : tie.After-rollback = search in
@@ -85,14 +64,14 @@ pub rollback-spec : {M : Type 1} → statement M
 rollback-spec =
     tie.close
     (tie.spec
-    measure-requires
-    admit-frames-requires
-    same-length
-    same-length-2
+    (λ c κs. search needs)
+    (λ c κs. search needs)
+    (λ c. search needs)
+    (λ c. search needs)
     returns
     live-requires
     sub-kept
-    ring-requires
+    (λ c κs. search needs)
     pages-below-requires
     cast-rollback
     rollback-requires
@@ -100,6 +79,6 @@ rollback-spec =
     add-cmf
     sub-cmf
     rem-cmf
-    same-length-3
-    same-length-4
+    (λ c. search needs)
+    (λ c. search needs)
     returns-2)

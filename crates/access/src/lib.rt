@@ -52,19 +52,18 @@ fn put_value(
     width: u32,
     address: u32,
     value: u32,
+    found: Entry,
     live: u32,
     page: u32,
 )
-    requires { ⌜ AsksWrite (storageOf (stateOf registers (cacheOf (now held) (now origins) (now valid) (now bytes) (now last))) (now archive) (now pool) (now groups) (now table) (now owners) (now history)) width address live page ⌝ }
+    requires { ⌜ (AsksWrite (storageOf (stateOf registers (cacheOf (now held) (now origins) (now valid) (now bytes) (now last))) (now archive) (now pool) (now groups) (now table) (now owners) (now history)) width address live page) × (found ≡ hitIn (now held) (now valid) (lineOf address)) ⌝ }
     ensures { λ _. ⌜ Put (storageOf (stateOf registers (cacheOf (now (held .entry)) (now (origins .entry)) (now (valid .entry)) (now (bytes .entry)) (now (last .entry)))) (now (archive .entry)) (now (pool .entry)) (now (groups .entry)) (now (table .entry)) (now (owners .entry)) (now (history .entry))) width address value live page
         (cacheOf (now (held .exit)) (now (origins .exit)) (now (valid .exit)) (now (bytes .exit)) (now (last .exit))) (memoryOf (now (archive .entry)) (now (pool .exit)) (now (groups .exit)) (now (table .exit)) (now (owners .exit)) (now (history .entry))) ⌝ }
 {
     let line = address / 16;
     let shape = storage::shape(registers);
     let latest = versions::latest(
-        held,
         origins,
-        valid,
         bytes,
         archive,
         pool,
@@ -75,6 +74,7 @@ fn put_value(
         registers.pages,
         live,
         line,
+        found,
     );
     let before = latest.content;
     let content = pages::lines::edited(before, width, address % 16, value);
@@ -93,7 +93,17 @@ fn put_value(
         content,
     );
     let frame = registers.cmf as u16;
-    cache::place(held, origins, valid, bytes, last, line, frame, content);
+    cache::place(
+        held,
+        origins,
+        valid,
+        bytes,
+        last,
+        line,
+        found,
+        frame,
+        content,
+    );
 }
 
 // WRITE past its tests, the short way, to a line that an entry of the cache holds with CMF as its frame: it is written there already, and its
@@ -153,8 +163,9 @@ fn write_line(
     width: u32,
     address: u32,
     value: u32,
+    found: Entry,
 ) -> Given
-    requires { ⌜ (admitted (registersOf registers) (lengthsIn (memoryOf (now archive) (now pool) (now groups) (now table) (now owners) (now history))) 0 ≡ 0) × (writeRefusal (settingsAt registers) width address value 0 ≡ 0) ⌝ }
+    requires { ⌜ (admitted (registersOf registers) (lengthsIn (memoryOf (now archive) (now pool) (now groups) (now table) (now owners) (now history))) 0 ≡ 0) × (writeRefusal (settingsAt registers) width address value 0 ≡ 0) × (found ≡ hitIn (now held) (now valid) (lineOf address)) ⌝ }
     ensures { λ r. ⌜ Writes
         (storageOf (stateOf registers (cacheOf (now (held .entry)) (now (origins .entry)) (now (valid .entry)) (now (bytes .entry)) (now (last .entry)))) (now (archive .entry)) (now (pool .entry)) (now (groups .entry)) (now (table .entry)) (now (owners .entry)) (now (history .entry)))
         width address value (r .refusal)
@@ -163,8 +174,8 @@ fn write_line(
     let live = frames::live(registers.frames, registers.omf, registers.cmf);
     let ring = storage::ring(registers);
     let choice = versions::page_for(table, owners, ring, registers.cmf, address / 16);
-    let found = choice.page;
-    match found {
+    let chosen = choice.page;
+    match chosen {
         Found::At(page) => {
             put_value(
                 registers,
@@ -182,6 +193,7 @@ fn write_line(
                 width,
                 address,
                 value,
+                found,
                 live,
                 page,
             );
@@ -228,7 +240,8 @@ pub fn write_admitted(
             refusal,
         };
     }
-    match cache::find_of(held, origins, valid, address / 16, registers.cmf) {
+    let found = cache::find(held, valid, address / 16);
+    match cache::of_frame(origins, found, registers.cmf) {
         Entry::Hit(entry) => {
             edit_line(
                 registers,
@@ -264,6 +277,7 @@ pub fn write_admitted(
             width,
             address,
             value,
+            found,
         ),
     }
 }
@@ -350,13 +364,14 @@ fn load(
         line,
     );
     let content = version.content;
-    cache::fill(
+    cache::place(
         held,
         origins,
         valid,
         bytes,
         last,
         line,
+        Entry::Miss,
         version.frame,
         content,
     );

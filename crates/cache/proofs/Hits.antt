@@ -16,7 +16,7 @@ use Rattle.rules.proofs.Tests.{both-true}
 use Rattle.cache.specs.declared.Cache.{Cache}
 use Rattle.cache.specs.declared.Entry.{Entry}
 use Rattle.cache.specs.declared.Entry.the-variants.{Hit, Miss}
-use Rattle.cache.specs.Entries.{Sized, heldLine, isValid, home, isAt, found, isHit, wayTaken, entryTaken, FoundAt, hitIn, ofFrame, hitOf, isAtIn, isValidIn, freeWay, wayIn}
+use Rattle.cache.specs.Entries.{Sized, heldLine, isValid, home, isAt, found, isHit, wayTaken, entryTaken, Below, FoundAt, hitIn, ofFrame, isAtIn, isValidIn, freeWay, wayIn}
 use Rattle.cache.specs.Shown.{lineIn, wayOf, shown}
 use Rattle.cache.proofs.Returns.{hit-some, at-line, found-first, found-second, found-none, taken-first, taken-second}
 
@@ -163,26 +163,21 @@ module _ (c : Cache) (l : ℕ) where
           other false p own here =
               omega (arith, here, taken-second (c .held) (c .valid) (c .last) l (isAt c (home l) l) refl p (isAt c (home l + 1) l) refl own)
 
--- A hit may be read, in the form in which a caller of `find` has it.
+-- A hit may be read, in the form in which a caller of `find` has it,
 pub found-below : (lines valid : List ℕ) (l : ℕ) (r : Entry) (e : ℕ) → r ≡ hitIn lines valid l → r ≡ Hit e → e < 32
 found-below lines valid l r e d h =
     found-at (record { held = lines; origins = []; valid = valid; bytes = []; last = [] }) l e (sym d ∙ h) .below
 
--- An entry with a frame is one that holds the line, and has the frame.
-pub of-hit : (lines origins valid : List ℕ) (l f e : ℕ) → hitOf lines origins valid l f ≡ Hit e → (hitIn lines valid l ≡ Hit e) × (getD origins e 0 ≡ f)
+-- and one that hands it on.
+pub found-few : (lines valid : List ℕ) (l : ℕ) (r : Entry) → r ≡ hitIn lines valid l → Below r
+found-few lines valid l r d e h = found-below lines valid l r e d h
+
+-- An entry with a frame is the one that was found, and has the frame.
+pub of-hit : (origins : List ℕ) (f e : ℕ) (r : Entry) → ofFrame origins f r ≡ Hit e → (r ≡ Hit e) × (getD origins e 0 ≡ f)
 unfolding ofFrame
-of-hit lines origins valid l f e h = go (hitIn lines valid l) refl h
+of-hit origins f e (Hit n) h = own (eqb (getD origins n 0) f) refl h
   where
-    own : (n : ℕ) (t : Bool) → eqb (getD origins n 0) f ≡ t → cond t (Hit n) Miss ≡ Hit e → (Hit n ≡ Hit e) × (getD origins e 0 ≡ f)
-    own n true p k = let d : n ≡ e = cc k in (k, ap (λ (m : ℕ). getD origins m 0) (sym d) ∙ eqb-true (getD origins n 0) f p)
-    own n false p k = absurd (hit-some (sym k))
-
-    go : (r : Entry) → hitIn lines valid l ≡ r → ofFrame origins f r ≡ Hit e → (hitIn lines valid l ≡ Hit e) × (getD origins e 0 ≡ f)
-    go (Hit n) d k = let o = own n (eqb (getD origins n 0) f) refl k in (d ∙ o .0, o .1)
-    go Miss d k = absurd (hit-some (sym k))
-
--- and may be written, in the form in which a caller of `find_of` has it.
-pub found-of : (lines origins valid : List ℕ) (l f : ℕ) (r : Entry) (e : ℕ) → r ≡ hitOf lines origins valid l f → r ≡ Hit e → e < 32
-found-of lines origins valid l f r e d h =
-    let own : hitIn lines valid l ≡ Hit e = of-hit lines origins valid l f e (sym d ∙ h) .0 in
-    found-below lines valid l (hitIn lines valid l) e refl own
+    own : (t : Bool) → eqb (getD origins n 0) f ≡ t → cond t (Hit n) Miss ≡ Hit e → (Hit n ≡ Hit e) × (getD origins e 0 ≡ f)
+    own true p k = let d : n ≡ e = cc k in (k, ap (λ (m : ℕ). getD origins m 0) (sym d) ∙ eqb-true (getD origins n 0) f p)
+    own false p k = absurd (hit-some (sym k))
+of-hit origins f e Miss h = absurd (hit-some (sym h))

@@ -3,7 +3,7 @@ use mathlib.Core.Path.{_≡_, refl, sym, _∙_, ap, ap₂}
 use mathlib.Core.Logic.{_≢_}
 use mathlib.Core.Bool.{Bool, true, false, cond, not, _&&_, and-false, false≢true}
 use mathlib.Core.List.{List}
-use Prim.Native.Nat.{ℕ, _+_, _*_, _≤_, _<_}
+use Prim.Native.Nat.{ℕ, _+_, _*_, _%_, _≤_, _<_}
 use native.Mathlib.Omega.{arith}
 use borrow.Author.Tests.{eq-eqb, ne-eqb, lt-ltb, le-ltb, not-true, not-false}
 use lib.Dec.{eqb, ltb}
@@ -14,7 +14,7 @@ use Rattle.frames.specs.Circle.{indexOf}
 use Rattle.cache.specs.declared.Cache.{Cache}
 use Rattle.cache.specs.declared.Entry.{Entry}
 use Rattle.cache.specs.declared.Entry.the-variants.{Hit, Miss}
-use Rattle.cache.specs.Entries.{home, wayTaken, hitIn, ofFrame, hitOf, isHit, bytesIn, isAtIn, isValidIn, freeWay, wayIn}
+use Rattle.cache.specs.Entries.{home, wayTaken, hitIn, ofFrame, isHit, bytesIn, isAtIn, isValidIn, freeWay, wayIn, wayFrom}
 use Rattle.lists.specs.Lists.{rewrite}
 use Rattle.lists.specs.Lines.{pasteLine, AsksBytes}
 use Rattle.lists.proofs.Values.{line-value, line-edit}
@@ -71,20 +71,25 @@ module _ (lines valid last : List ℕ) (l : ℕ) (b : Bool) (first : b ≡ isAtI
     unfolding wayIn
     taken-second t = rw (sym first ∙ f, sym second ∙ t)
 
-    pub taken-free : d ≡ false → (r : ℕ) → (r ≡ freeWay valid last (setOf l)) × (r < 2) → r ≡ wayIn lines valid last l
-    unfolding wayIn
-    taken-free g r e = rw (sym first ∙ f, sym second ∙ g) (e .0)
-
--- A line that is not held takes the free way.
-pub miss-way : (lines valid last : List ℕ) (l : ℕ) → hitIn lines valid l ≡ Miss → freeWay valid last (setOf l) ≡ wayIn lines valid last l
-unfolding hitIn wayIn
-miss-way lines valid last l h = go (isAtIn lines valid (home l) l) (isAtIn lines valid (home l + 1) l) h
+-- The way by the entry found is the way that a use takes.
+way-found : (lines valid last : List ℕ) (l : ℕ) (r : Entry) → r ≡ hitIn lines valid l → wayFrom valid last l r ≡ wayIn lines valid last l
+unfolding hitIn wayIn wayFrom
+way-found lines valid last l r e = ap (wayFrom valid last l) e ∙ go (isAtIn lines valid (home l) l) (isAtIn lines valid (home l + 1) l)
   where
-    go : (a b : Bool) → cond a (Hit (home l)) (cond b (Hit (home l + 1)) Miss) ≡ Miss
-        → freeWay valid last (setOf l) ≡ cond a 0 (cond b 1 (freeWay valid last (setOf l)))
-    go true b e = absurd (hit-some e)
-    go false true e = absurd (hit-some e)
-    go false false e = refl
+    go : (a b : Bool) → wayFrom valid last l (cond a (Hit (home l)) (cond b (Hit (home l + 1)) Miss)) ≡ cond a 0 (cond b 1 (freeWay valid last (setOf l)))
+    go true b = omega arith
+    go false true = omega arith
+    go false false = refl
+
+-- It, in the form in which the code has it.
+module _ (valid last : List ℕ) (l : ℕ) (r : Entry) where
+  pub way-hit : (e : ℕ) → r ≡ Hit e → e % 2 ≡ wayFrom valid last l r
+  unfolding wayFrom
+  way-hit e h = sym (ap (wayFrom valid last l) h)
+
+  pub way-miss : (n : ℕ) → r ≡ Miss → (n ≡ freeWay valid last (setOf l)) × (n < 2) → n ≡ wayFrom valid last l r
+  unfolding wayFrom
+  way-miss n h e = e .0 ∙ sym (ap (wayFrom valid last l) h)
 
 module _ (valid last : List ℕ) (s : ℕ) (v : Bool) (valid0 : v ≡ isValidIn valid (2 * s)) where
   pub free-first : not v ≡ true → 0 ≡ freeWay valid last s
@@ -154,23 +159,22 @@ module _ (bytes : List ℕ) (entry w o : ℕ) (asks : (entry < 32) × (AsksBytes
   unfolding bytesIn
   entry-edit v after e = e ∙ line-edit w o (16 * entry) bytes (asks .1) v (entry-room bytes entry long (asks .0))
 
--- ---- the entry of a line with a frame, in the form in which the code has it
-module _ (lines origins valid : List ℕ) (l f : ℕ) (r : Entry) (is : r ≡ hitIn lines valid l) where
-  pub of-frame : (e g : ℕ) → r ≡ Hit e → (n : ℕ) → n ≡ getD origins e 0 → (g ≡ n) × (g < 65536) → g ≡ f → Hit e ≡ hitOf lines origins valid l f
-  unfolding ofFrame
-  of-frame e g h n at wide same =
-      sym (ap (ofFrame origins f) (sym is ∙ h)
-      ∙ ap (λ (b : Bool). cond b (Hit e) Miss) (eq-eqb (getD origins e 0) f (sym at ∙ (sym (wide .0) ∙ same))))
+-- ---- an entry with a frame, in the form in which the code has it
+module _ (origins : List ℕ) (f : ℕ) (r : Entry) where
+  module _ (e g n : ℕ) (h : r ≡ Hit e) (at : n ≡ getD origins e 0) (wide : (g ≡ n) × (g < 65536)) where
+    pub of-same : g ≡ f → Hit e ≡ ofFrame origins f r
+    unfolding ofFrame
+    of-same same =
+        sym (ap (ofFrame origins f) h ∙ ap (λ (b : Bool). cond b (Hit e) Miss) (eq-eqb (getD origins e 0) f (sym at ∙ (sym (wide .0) ∙ same))))
 
-  pub of-other : (e g : ℕ) → r ≡ Hit e → (n : ℕ) → n ≡ getD origins e 0 → (g ≡ n) × (g < 65536) → g ≢ f → Miss ≡ hitOf lines origins valid l f
-  unfolding ofFrame
-  of-other e g h n at wide other =
-      sym (ap (ofFrame origins f) (sym is ∙ h)
-      ∙ ap (λ (b : Bool). cond b (Hit e) Miss) (ne-eqb (getD origins e 0) f (λ d. other (wide .0 ∙ (at ∙ d)))))
+    pub of-other : g ≢ f → Miss ≡ ofFrame origins f r
+    unfolding ofFrame
+    of-other other =
+        sym (ap (ofFrame origins f) h ∙ ap (λ (b : Bool). cond b (Hit e) Miss) (ne-eqb (getD origins e 0) f (λ d. other (wide .0 ∙ (at ∙ d)))))
 
-  pub of-none : r ≡ Miss → Miss ≡ hitOf lines origins valid l f
+  pub of-none : r ≡ Miss → Miss ≡ ofFrame origins f r
   unfolding ofFrame
-  of-none h = sym (ap (ofFrame origins f) (sym is ∙ h))
+  of-none h = sym (ap (ofFrame origins f) h)
 
 -- the arrays after a line is put in a way
 pub put-done : (c : Cache) (line way frame : ℕ) (content lines frames valid bytes last : List ℕ)
@@ -181,14 +185,10 @@ unfolding putIn
 put-done c line way frame content lines frames valid bytes last el ef ev eb ea = cc (el, ef, ev, eb, ea)
 
 -- and in the way that a use takes
-pub put-taken : (c : Cache) (line way frame : ℕ) (content : List ℕ) (after : Cache) → (way ≡ wayTaken c line) × (way < 2) → after ≡ putIn c line way frame content
-    → after ≡ placedIn c line frame content
-put-taken c line way frame content after w e = e ∙ ap (λ (n : ℕ). putIn c line n frame content) (w .0)
-
-pub put-free : (c : Cache) (line way frame : ℕ) (content : List ℕ) (after : Cache) → hitIn (c .held) (c .valid) line ≡ Miss
-    → (way ≡ freeWay (c .valid) (c .last) (setOf line)) × (way < 2) → after ≡ putIn c line way frame content → after ≡ placedIn c line frame content
-put-free c line way frame content after h w e =
-    put-taken c line way frame content after (w .0 ∙ miss-way (c .held) (c .valid) (c .last) line h, w .1) e
+pub put-taken : (c : Cache) (line way frame : ℕ) (content : List ℕ) (after : Cache) (r : Entry) → r ≡ hitIn (c .held) (c .valid) line
+    → (way ≡ wayFrom (c .valid) (c .last) line r) × (way < 2) → after ≡ putIn c line way frame content → after ≡ placedIn c line frame content
+put-taken c line way frame content after r h w e =
+    e ∙ ap (λ (n : ℕ). putIn c line n frame content) (w .0 ∙ way-found (c .held) (c .valid) (c .last) line r h)
 
 -- the loops' ends
 module _ (frames omf n i : ℕ) (before now : List ℕ) (most : i ≤ 32) (least : 32 ≤ i) where

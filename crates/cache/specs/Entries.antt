@@ -1,5 +1,5 @@
 -- The entries of the cache: "The cache has 16 sets of two ways; a line's set is its number modulo 16." Entry 2 * set + way.
-use Prim.Native.Nat.{ℕ, _+_, _*_, _/_, _<_}
+use Prim.Native.Nat.{ℕ, _+_, _*_, _/_, _%_, _<_}
 use mathlib.Core.Path.{_≡_}
 use mathlib.Core.Bool.{Bool, true, false, cond, not, _&&_}
 use mathlib.Core.List.{List}
@@ -61,13 +61,14 @@ hitIn lines valid l =
 abbrev pub found : Cache → ℕ → Entry
 found c l = hitIn (c .held) (c .valid) l
 
--- The same where the entry has this frame.
+-- That entry where it has this frame.
 unfoldable pub ofFrame : (origins : List ℕ) → (frame : ℕ) → Entry → Entry
 ofFrame origins f (Hit e) = cond (eqb (getD origins e 0) f) (Hit e) Miss
 ofFrame origins f Miss = Miss
 
-abbrev pub hitOf : (lines origins valid : List ℕ) → (line frame : ℕ) → Entry
-hitOf lines origins valid l f = ofFrame origins f (hitIn lines valid l)
+-- One of the 32.
+abbrev pub Below : Entry → Type 0
+Below r = (e : ℕ) → r ≡ Hit e → e < 32
 
 -- Whether there is one.
 unfoldable pub isHit : Entry → Bool
@@ -84,6 +85,11 @@ freeWay valid last s =
 unfoldable pub wayIn : (lines valid last : List ℕ) → ℕ → ℕ
 wayIn lines valid last l =
     cond (isAtIn lines valid (home l) l) 0 (cond (isAtIn lines valid (home l + 1) l) 1 (freeWay valid last (setOf l)))
+
+-- The same by the entry that was found for the line.
+unfoldable pub wayFrom : (valid last : List ℕ) → (line : ℕ) → Entry → ℕ
+wayFrom valid last l (Hit e) = e % 2
+wayFrom valid last l Miss = freeWay valid last (setOf l)
 
 abbrev pub wayTaken : Cache → ℕ → ℕ
 wayTaken c l = wayIn (c .held) (c .valid) (c .last) l

@@ -8,8 +8,7 @@ ghost use Rattle.rules.specs.Figure3.{emptyCache};
 ghost use Rattle.rules.specs.Line.{valueAt, edit};
 ghost use Rattle.frames.specs.Circle.{Turn};
 ghost use Rattle.lists.specs.Lines.{pasteLine, AsksBytes};
-ghost use Rattle.cache.specs.declared.Entry.the-variants.{Miss};
-ghost use Rattle.cache.specs.Entries.{cacheOf, isValidIn, bytesIn, heldBytes, isAtIn, hitIn, hitOf, freeWay, wayIn};
+ghost use Rattle.cache.specs.Entries.{cacheOf, isValidIn, bytesIn, heldBytes, isAtIn, hitIn, ofFrame, Below, freeWay, wayFrom};
 ghost use Rattle.cache.specs.Steps.{emptied, putIn, placedIn, isBelow, flagAfter, flagsAfter, frameAfter, framesAfter};
 ghost use Rattle.cache.specs.Shown.{shown};
 
@@ -96,17 +95,12 @@ pub fn find<'a>(held: &'a [u32; 32], valid: &'a [u8; 32], line: u32) -> Entry
     Entry::Miss
 }
 
-// The same, if it holds the line with this frame.
-pub fn find_of<'a>(
-    held: &'a [u32; 32],
-    origins: &'a [u16; 32],
-    valid: &'a [u8; 32],
-    line: u32,
-    frame: u32,
-) -> Entry
-    ensures { λ r. ⌜ r ≡ hitOf (now (held .entry)) (now (origins .entry)) (now (valid .entry)) line frame ⌝ }
+// An entry that was found, if it has this frame.
+pub fn of_frame(origins: &[u16; 32], found: Entry, frame: u32) -> Entry
+    requires { ⌜ Below found ⌝ }
+    ensures { λ r. ⌜ r ≡ ofFrame (now (origins .entry)) frame found ⌝ }
 {
-    match find(held, valid, line) {
+    match found {
         Entry::Hit(entry) => {
             if numbers::widen_u16(frame_of(origins, entry)) == frame {
                 return Entry::Hit(entry);
@@ -136,20 +130,14 @@ fn free_way<'a>(valid: &'a [u8; 32], last: &'a [u8; 16], set: u32) -> u32
     0
 }
 
-// The way that a use of a line takes, hit or miss.
-pub fn way_for<'a>(held: &'a [u32; 32], valid: &'a [u8; 32], last: &'a [u8; 16], line: u32) -> u32
-    ensures { λ r. ⌜ (r ≡ wayIn (now (held .entry)) (now (valid .entry)) (now (last .entry)) line) × (r < 2) ⌝ }
+// The way that a use of a line takes, by the entry that was found for it.
+fn way_of<'a>(valid: &'a [u8; 32], last: &'a [u8; 16], line: u32, found: Entry) -> u32
+    ensures { λ r. ⌜ (r ≡ wayFrom (now (valid .entry)) (now (last .entry)) line found) × (r < 2) ⌝ }
 {
-    let set = line % 16;
-    let first = 2 * set;
-    let second = first + 1;
-    if is_at(held, valid, first, line) {
-        return 0;
+    match found {
+        Entry::Hit(entry) => entry % 2,
+        Entry::Miss => free_way(valid, last, line % 16),
     }
-    if is_at(held, valid, second, line) {
-        return 1;
-    }
-    free_way(valid, last, set)
 }
 
 // That the bytes are 512 is in their type, and code that has them behind a reference learns it here. The copy is never read, so that
@@ -276,7 +264,8 @@ fn put_in(
     set_last(last, set, way);
 }
 
-// A use of a line, by a read or a write: the way taken has it with this frame and these bytes and was used last.
+// A use of a line, by a read or a write: the way taken has it with this frame and these bytes and was used last. The set is not looked up
+// again: the entry that was found for the line, if one was, is handed on.
 pub fn place(
     held: &mut [u32; 32],
     origins: &mut [u16; 32],
@@ -284,32 +273,15 @@ pub fn place(
     bytes: &mut [u8; 512],
     last: &mut [u8; 16],
     line: u32,
+    found: Entry,
     frame: u16,
     content: [u8; 16],
 )
+    requires { ⌜ found ≡ hitIn (now held) (now valid) line ⌝ }
     ensures { λ _. ⌜ cacheOf (now (held .exit)) (now (origins .exit)) (now (valid .exit)) (now (bytes .exit)) (now (last .exit))
         ≡ placedIn (cacheOf (now (held .entry)) (now (origins .entry)) (now (valid .entry)) (now (bytes .entry)) (now (last .entry))) line frame content ⌝ }
 {
-    let way = way_for(held, valid, last, line);
-    put_in(held, origins, valid, bytes, last, line, way, frame, content);
-}
-
-// The same of a line that the cache is known not to hold: its set is not looked up again.
-pub fn fill(
-    held: &mut [u32; 32],
-    origins: &mut [u16; 32],
-    valid: &mut [u8; 32],
-    bytes: &mut [u8; 512],
-    last: &mut [u8; 16],
-    line: u32,
-    frame: u16,
-    content: [u8; 16],
-)
-    requires { ⌜ hitIn (now held) (now valid) line ≡ Miss ⌝ }
-    ensures { λ _. ⌜ cacheOf (now (held .exit)) (now (origins .exit)) (now (valid .exit)) (now (bytes .exit)) (now (last .exit))
-        ≡ placedIn (cacheOf (now (held .entry)) (now (origins .entry)) (now (valid .entry)) (now (bytes .entry)) (now (last .entry))) line frame content ⌝ }
-{
-    let way = free_way(valid, last, line % 16);
+    let way = way_of(valid, last, line, found);
     put_in(held, origins, valid, bytes, last, line, way, frame, content);
 }
 

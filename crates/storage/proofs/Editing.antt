@@ -34,8 +34,9 @@ use Rattle.written.proofs.Renewing.{renewed-written}
 use Rattle.pages.specs.Lines.{pageLine, withPageLine}
 use Rattle.pages.specs.Table.{neededAt, entryAt}
 use Rattle.pages.proofs.Needs.{effective-needed}
+use Rattle.cache.specs.declared.Entry.{Entry}
 use Rattle.cache.specs.declared.Entry.the-variants.{Hit}
-use Rattle.cache.specs.Entries.{cacheOf, bytesIn, found, hitOf, heldFrame, FoundAt}
+use Rattle.cache.specs.Entries.{cacheOf, bytesIn, found, ofFrame, heldFrame, FoundAt}
 use Rattle.cache.specs.Steps.{placedIn, archiveFrame}
 use Rattle.cache.proofs.Hits.{found-at, of-hit}
 use Rattle.cache.proofs.Uses.{hit-edited}
@@ -163,8 +164,8 @@ module _ (x : Storage) (q : WellStore x) (l : ℕ) (b : l < x .state .registers 
       effective-needed (writtenIn x) (n - 1) l (lim .good .lines-to) (lim .fits .omf-below) (omega (arith, lim .live-some, lim .live-most)) block bit-current
 
 -- Once WRITE is admitted and an entry holds the line with CMF as its frame:
-module _ (x : Storage) (wd a v r : ℕ) (let-in : admittedIn x 0 ≡ 0) (own : r ≡ writeRefusal (settingsIn (x .state)) wd a v 0) (z : r ≡ 0) (e : ℕ)
-    (hit : hitOf (x .state .cache .held) (x .state .cache .origins) (x .state .cache .valid) (lineOf a) (x .state .registers .cmf) ≡ Hit e) where
+module _ (x : Storage) (wd a v r : ℕ) (let-in : admittedIn x 0 ≡ 0) (own : r ≡ writeRefusal (settingsIn (x .state)) wd a v 0) (z : r ≡ 0) (f : Entry)
+    (f-is : f ≡ found (x .state .cache) (lineOf a)) (own-frame : Entry) (own-is : own-frame ≡ ofFrame (x .state .cache .origins) (x .state .registers .cmf) f) (e : ℕ) (hit : own-frame ≡ Hit e) where
   abbrev l : ℕ
   l = lineOf a
 
@@ -248,7 +249,7 @@ module _ (x : Storage) (wd a v r : ℕ) (let-in : admittedIn x 0 ≡ 0) (own : r
     -- What it is on well-formed storage.
     module _ (q : WellStore x) where
       here : (found (x .state .cache) l ≡ Hit e) × (heldFrame (x .state .cache) e ≡ g .cmf)
-      here = of-hit (x .state .cache .held) (x .state .cache .origins) (x .state .cache .valid) l (g .cmf) e hit
+      here = let o = of-hit (x .state .cache .origins) (g .cmf) e f (sym own-is ∙ hit) in (sym f-is ∙ o .0, o .1)
 
       there : FoundAt (x .state .cache) l e
       there = found-at (x .state .cache) l e (here .0)

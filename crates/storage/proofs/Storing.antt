@@ -32,11 +32,13 @@ use Rattle.pages.specs.Lines.{withPageLine}
 use Rattle.pages.specs.declared.Ring.{Ring}
 use Rattle.pages.specs.Table.{placeAt, entryAt}
 use Rattle.cache.specs.declared.Cache.{Cache}
+use Rattle.cache.specs.declared.Entry.{Entry}
+use Rattle.cache.specs.Entries.{hitIn}
 use Rattle.cache.specs.Steps.{placedIn}
 use Rattle.versions.specs.declared.Version.{Version}
-use Rattle.versions.specs.Newest.{latestOf}
+use Rattle.versions.specs.Newest.{newestOf, latestFrom, latestOf}
 use Rattle.versions.specs.Steps.{pageFor, usedFor, AsksPageFor}
-use Rattle.versions.proofs.Finding.{entry-within}
+use Rattle.versions.proofs.Finding.{entry-within, latest-held}
 use Rattle.storage.specs.Storage.{Storage, stateOf, shapeAt, ringAt, Lent, memoryOf, settingsIn, registersIn, lengthsIn, pastIn, liveIn, writtenIn, WellStore, store}
 use Rattle.storage.specs.Steps.{givenRegisters, usedState, contentAfter, currentPlace, currentEntry, WroteTo, Put, AsksWrite}
 use Rattle.storage.specs.Admit.{admitted, Room, PlaceRoom}
@@ -52,8 +54,11 @@ use Rattle.storage.proofs.Choosing.{Chosen, page-below, chosen, none-ch
 use Rattle.storage.proofs.Writing.{stored-followed}
 
 -- What is left, in the form in which the code has it, which is by a shape.
-pub put-told : (x : Storage) (wd a v live page : ℕ) (shape : Shape) → shape ≡ shapeAt (x .state .registers) → (latest : Version)
-    → latest ≡ latestOf (x .state .cache) (writtenAt shape (x .memory .groups) (x .memory .history)) (x .state .registers .pages) live (x .memory .archive) (x .memory .pool) (x .memory .table) (lineOf a)
+pub put-told : (x : Storage) (wd a v live page : ℕ) (shape : Shape) → shape ≡ shapeAt (x .state .registers) → (entry : Entry)
+    → entry ≡ hitIn (x .state .cache .held) (x .state .cache .valid) (lineOf a) → (latest : Version)
+    → latest
+    ≡ latestFrom (x .state .cache .origins) (x .state .cache .bytes)
+    (newestOf (writtenAt shape (x .memory .groups) (x .memory .history)) (x .state .registers .pages) live (x .memory .archive) (x .memory .pool) (x .memory .table) (lineOf a)) entry
     → (content : Line) → content ≡ edit wd (offsetOf a) v (latest .content) → length content ≡ 16 → (pool groups table owners : List ℕ)
     → pool ≡ withPageLine (x .memory .pool) page (lineOf a % 8) content
     → groups ≡ withWritten (writtenAt shape (x .memory .groups) (x .memory .history)) (x .state .registers .tag % 256) (lineOf a) (live - 1)
@@ -61,13 +66,14 @@ pub put-told : (x : Storage) (wd a v live page : ℕ) (shape : Shape) → shape 
     → owners ≡ set (x .memory .owners) page (placeAt (frameAt (shape .frames) (shape .omf) (live - 1)) (lineOf a / 8))
     → (cache : Cache) → cache ≡ placedIn (x .state .cache) (lineOf a) (x .state .registers .cmf) content
     → Put x wd a v live page cache (memoryOf (x .memory .archive) pool groups table owners (x .memory .history))
-put-told x wd a v live page shape is latest found content edited whole pool groups table owners ep eg et eo cache e =
+put-told x wd a v live page shape is entry at-entry latest found content edited whole pool groups table owners ep eg et eo cache e =
     record {
       content = content;
       content-is =
           edited
           ∙ ap (λ (y : Version). edit wd (offsetOf a) v (y .content))
-          (found
+          (latest-held (x .state .cache .held) (x .state .cache .origins) (x .state .cache .valid) (x .state .cache .bytes) (writtenAt shape (x .memory .groups) (x .memory .history)) (x .state .registers .pages) live (lineOf a)
+          (x .memory .archive) (x .memory .pool) (x .memory .table) entry at-entry latest found
           ∙ ap (λ (y : Shape). latestOf (x .state .cache) (writtenAt y (x .memory .groups) (x .memory .history)) (x .state .registers .pages) live (x .memory .archive) (x .memory .pool) (x .memory .table) (lineOf a)) is);
       content-long = whole;
       cache-is = e;

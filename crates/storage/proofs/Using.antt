@@ -37,7 +37,7 @@ use Rattle.versions.specs.declared.Spot.the-variants.{Page, Archive}
 use Rattle.versions.specs.declared.Version.{Version}
 use Rattle.versions.specs.declared.Origin.the-variants as origin
 use Rattle.versions.specs.Newest.{pageOf, spotOf, contentOf, originOf, newestOf, latestOf}
-use Rattle.versions.proofs.Finding.{latest-hit, latest-miss}
+use Rattle.versions.proofs.Finding.{latest-hit, latest-miss, latest-held}
 use Rattle.storage.specs.declared.State.{State}
 use Rattle.storage.specs.Storage.{Storage, stateOf, settingsIn, registersIn, lengthsIn, liveIn, writtenIn, frameIn, archiveIn, versionAt, latestIn, newestFrame, Recent, WellStore, store}
 use Rattle.storage.specs.Admit.{admitted}
@@ -164,8 +164,8 @@ module _ (x : Storage) (w a : ℕ) where
 
           held-is : held ≡ latestOf c (writtenIn x) (x .state .registers .pages) live (x .memory .archive) (x .memory .pool) (x .memory .table) l
           held-is =
-              latest-hit (c .held) (c .origins) (c .valid) (c .bytes) (writtenIn x) (x .state .registers .pages) live l (x .memory .archive) (x .memory .pool) (x .memory .table) f f-is
-              e (heldFrame c e) content at-entry content-is refl
+              latest-held (c .held) (c .origins) (c .valid) (c .bytes) (writtenIn x) (x .state .registers .pages) live l (x .memory .archive) (x .memory .pool) (x .memory .table) f f-is held
+              (latest-hit (c .origins) (c .bytes) _ f e (heldFrame c e) content at-entry content-is refl)
 
           after-is : after ≡ usedState (x .state) (x .state .registers .used) (placedIn c l (heldFrame c e) content)
           after-is =
@@ -181,8 +181,8 @@ module _ (x : Storage) (w a : ℕ) where
             (valued : value ≡ valueAt w (offsetOf a) (v .content)) (k : Cache) (k-is : k ≡ placedIn c l (v .frame) (v .content)) where
           found-is : v ≡ latestOf c (writtenIn x) (x .state .registers .pages) live (x .memory .archive) (x .memory .pool) (x .memory .table) l
           found-is =
-              latest-miss (c .held) (c .origins) (c .valid) (c .bytes) (writtenIn x) (x .state .registers .pages) live l (x .memory .archive) (x .memory .pool) (x .memory .table) f f-is
-              v missed v-is
+              latest-held (c .held) (c .origins) (c .valid) (c .bytes) (writtenIn x) (x .state .registers .pages) live l (x .memory .archive) (x .memory .pool) (x .memory .table) f f-is v
+              (latest-miss (c .origins) (c .bytes) _ f v missed v-is)
 
           loaded-is : stateOf (x .state .registers) k ≡ usedState (x .state) (x .state .registers .used) (placedIn c l (v .frame) (v .content))
           loaded-is = used-done (x .state) (x .state .registers .used) l (v .frame) (v .content) k k-is

@@ -42,7 +42,6 @@ pub struct Given {
 }
 
 // The registers after a call, and its refusal or 0.
-#[repr(C)]
 pub struct Step {
     pub registers: Registers,
     pub refusal: u32,

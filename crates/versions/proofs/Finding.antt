@@ -163,17 +163,22 @@ module _ (w : Written) (pages live line : ℕ) (archive pool table : List ℕ) (
       version-is Archive 65535 origin.Archive (spot-nothing (w .lines) (w .frames) (w .omf) pages table line r e) h
       (ap (numberOf (w .frames) (w .omf)) (sym e)) (ap (backIn live) (sym e))
 
-module _ (lines frames valid bytes : List ℕ) (w : Written) (pages live line : ℕ) (archive pool table : List ℕ) (r : Entry) (told : r ≡ hitIn lines valid line) where
+-- the version by the entry found
+module _ (frames bytes : List ℕ) (other : Version) (r : Entry) where
   pub latest-hit : (e n : ℕ) (x : Line) → r ≡ Hit e → x ≡ bytesIn bytes e → n ≡ getD frames e 0
-      → record { content = x; frame = n; origin = origin.Cache } ≡ latestHeld lines frames valid bytes w pages live archive pool table line
-  unfolding latestHeld latestFrom
+      → record { content = x; frame = n; origin = origin.Cache } ≡ latestFrom frames bytes other r
+  unfolding latestFrom
   latest-hit e n x h ex en =
-      ap₂ (λ (y : Line) (z : ℕ). record { content = y; frame = z; origin = origin.Cache }) ex en
-      ∙ ap (latestFrom frames bytes (newestOf w pages live archive pool table line)) (sym h ∙ told)
+      ap₂ (λ (y : Line) (z : ℕ). record { content = y; frame = z; origin = origin.Cache }) ex en ∙ ap (latestFrom frames bytes other) (sym h)
 
-  pub latest-miss : (v : Version) → r ≡ Miss → v ≡ newestOf w pages live archive pool table line → v ≡ latestHeld lines frames valid bytes w pages live archive pool table line
-  unfolding latestHeld latestFrom
-  latest-miss v h e = e ∙ ap (latestFrom frames bytes (newestOf w pages live archive pool table line)) (sym h ∙ told)
+  pub latest-miss : (v : Version) → r ≡ Miss → v ≡ other → v ≡ latestFrom frames bytes other r
+  unfolding latestFrom
+  latest-miss v h e = e ∙ ap (latestFrom frames bytes other) (sym h)
+
+pub latest-held : (lines frames valid bytes : List ℕ) (w : Written) (pages live line : ℕ) (archive pool table : List ℕ) (r : Entry) → r ≡ hitIn lines valid line → (v : Version)
+    → v ≡ latestFrom frames bytes (newestOf w pages live archive pool table line) r → v ≡ latestHeld lines frames valid bytes w pages live archive pool table line
+unfolding latestHeld
+latest-held lines frames valid bytes w pages live line archive pool table r told v e = e ∙ ap (latestFrom frames bytes (newestOf w pages live archive pool table line)) told
 
 -- what a version found has its frame and origin by
 module _ (w : Written) (pages live line : ℕ) (archive pool table : List ℕ) (asks : AsksNewest w pages live line archive pool table) (r : Found) (i : ℕ)

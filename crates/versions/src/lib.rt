@@ -15,7 +15,8 @@ ghost use Rattle.written.specs.Steps.{withWritten};
 ghost use Rattle.pages.specs.Lines.{withPageLine};
 ghost use Rattle.pages.specs.Table.{placeAt, entryAt, AsksEntry};
 ghost use Rattle.pages.specs.Ring.{indexAt, Leads};
-ghost use Rattle.versions.specs.Newest.{spotOf, contentOf, newestOf, latestHeld, AsksSpot, AsksContent, AsksNewest};
+ghost use Rattle.cache.specs.Entries.{Below};
+ghost use Rattle.versions.specs.Newest.{spotOf, contentOf, newestOf, latestFrom, AsksSpot, AsksContent, AsksNewest};
 ghost use Rattle.versions.specs.Steps.{zeroed, foldedLine, foldedPage, foldedPages, clearedPage, clearedPages, pageFor, usedFor, AsksPageFor, AsksPut, AsksCopy, AsksFold, AsksGone};
 
 // Where a version stands: in a page of the pool, in the slot of its line, or in the archive.
@@ -109,12 +110,10 @@ pub fn newest(
     }
 }
 
-// The same from the cache, where it holds the line: lines, frames, valid flags and bytes of its entries.
-pub fn latest<'a>(
-    held: &'a [u32; 32],
-    origins: &'a [u16; 32],
-    valid: &'a [u8; 32],
-    bytes: &'a [u8; 512],
+// The same from the entry of the cache that was found for the line, if one was: frames and bytes of its entries.
+pub fn latest(
+    origins: &[u16; 32],
+    bytes: &[u8; 512],
     archive: &[u8],
     pool: &[u8],
     groups: &[u32],
@@ -124,11 +123,12 @@ pub fn latest<'a>(
     pages: u32,
     live: u32,
     line: u32,
+    found: Entry,
 ) -> Version
-    requires { ⌜ AsksNewest (writtenAt shape (now groups) (now history)) pages live line (now archive) (now pool) (now table) ⌝ }
-    ensures { λ r. ⌜ r ≡ latestHeld (now (held .entry)) (now (origins .entry)) (now (valid .entry)) (now (bytes .entry)) (writtenAt shape (now (groups .entry)) (now (history .entry))) pages live (now (archive .entry)) (now (pool .entry)) (now (table .entry)) line ⌝ }
+    requires { ⌜ (AsksNewest (writtenAt shape (now groups) (now history)) pages live line (now archive) (now pool) (now table)) × (Below found) ⌝ }
+    ensures { λ r. ⌜ r ≡ latestFrom (now (origins .entry)) (now (bytes .entry)) (newestOf (writtenAt shape (now (groups .entry)) (now (history .entry))) pages live (now (archive .entry)) (now (pool .entry)) (now (table .entry)) line) found ⌝ }
 {
-    match cache::find(held, valid, line) {
+    match found {
         Entry::Hit(entry) => Version {
             content: cache::line_at(bytes, entry),
             frame: cache::frame_of(origins, entry),

@@ -1,6 +1,6 @@
 -- `access::write_admitted` meets its contract. Assumes nothing.
 use mathlib.Core.Path.{sym, _∙_}
-use Rattle.cache.proofs.Hits.{found-of}
+use Rattle.cache.proofs.Hits.{found-few, of-hit}
 use Rattle.storage.proofs.Admitting.{room-passed}
 use Rattle.storage.proofs.Storing.{write-refused}
 use Rattle.storage.proofs.Editing.{asks-edit, edit-done}
@@ -19,25 +19,30 @@ returns : tie.Need-returns
 returns c =
     let s : tie.Start = search in let w : tie.After-write-refusal = search in write-refused _ _ _ _ _ (s .pre) (w .write-refusal .ensures) (c .if1 .taken)
 
+of-frame-requires : tie.Need-of-frame-requires
+of-frame-requires c κs = let f : tie.After-find = search in found-few _ _ _ _ (f .find .ensures)
+
 edit-line-requires : tie.Need-edit-line-requires
 edit-line-requires c κs =
     let n : tie.After-entry = search in
-    let f : tie.After-find-of = n .before .before in
-    let i : tie.Else1 = f .before .before .before .before in
+    let o : tie.After-of-frame = n .before .before in
+    let f : tie.After-find = o .before .before in
+    let i : tie.Else1 = f .before .before .before in
     let w = i .before in
     let s = start-at w in
-    asks-edit _ _ _ _ _ _ _ _ _ _ _ (s .pre) (w .write-refusal .ensures) (i .if1 .left) _ (found-of _ _ _ _ _ _ _ (f .find-of .ensures) (n .entry .given .1))
+    asks-edit _ _ _ _ _ _ _ _ _ _ _ (s .pre) (w .write-refusal .ensures) (i .if1 .left) _ (found-few _ _ _ _ (f .find .ensures) _ (of-hit _ _ _ _ (sym (o .of-frame .ensures) ∙ n .entry .given .1) .0))
 
 returns-2 : tie.Need-returns-2
 returns-2 c =
     let n : tie.After-entry = search in
-    let f : tie.After-find-of = n .before .before in
-    let i : tie.Else1 = f .before .before .before .before in
+    let o : tie.After-of-frame = n .before .before in
+    let f : tie.After-find = o .before .before in
+    let i : tie.Else1 = f .before .before .before in
     let w = i .before in
     let s = start-at w in
     let d : tie.After-edit-line = search in
     let left = d .edit-line .ensures in
-    edit-done _ _ _ _ _ (s .pre) (w .write-refusal .ensures) (i .if1 .left) _ (sym (f .find-of .ensures) ∙ n .entry .given .1) _ _ _ _ (left .0) (left .1 .0) (left .1 .1 .0) (left .1 .1 .1)
+    edit-done _ _ _ _ _ (s .pre) (w .write-refusal .ensures) (i .if1 .left) _ (f .find .ensures) _ (o .of-frame .ensures) _ (n .entry .given .1) _ _ _ _ (left .0) (left .1 .0) (left .1 .1 .0) (left .1 .1 .1)
 
 pub write-admitted-spec : {M : Type 1} → statement M
 write-admitted-spec =
@@ -46,6 +51,7 @@ write-admitted-spec =
     write-refusal-requires
     returns
     (λ c κs. search needs)
+    of-frame-requires
     (λ c. search needs)
     edit-line-requires
     (λ c. search needs)

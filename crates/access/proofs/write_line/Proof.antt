@@ -22,21 +22,21 @@ page-for-requires c κs =
 put-value-requires : tie.Need-put-value-requires
 put-value-requires c κs =
     let s : tie.Start = search in
-    let f : tie.After-found = search in
+    let f : tie.After-chosen = search in
     let p : tie.After-page-for = search in
     let r : tie.After-ring = search in
     let l : tie.After-live = search in
-    asks-write _ _ _ _ _ (s .pre .0) (sym (s .pre .1)) refl _ (r .ring .ensures) _ (p .page-for .ensures .0) _ _ (l .live .ensures) (f .found .given .1)
+    (asks-write _ _ _ _ _ (s .pre .0) (sym (s .pre .1)) refl _ (r .ring .ensures) _ (p .page-for .ensures .0) _ _ (l .live .ensures) (f .chosen .given .1), s .pre .2)
 
 returns : tie.Need-returns
 returns c =
     let v : tie.After-put-value = search in
-    let f : tie.After-found = search in
+    let f : tie.After-chosen = search in
     let p : tie.After-page-for = f .before .before in
     let r : tie.After-ring = p .before .before .before in
     let l : tie.After-live = r .before in
     let s = start-at l in
-    write-done _ _ _ _ _ (s .pre .0) (sym (s .pre .1)) refl _ (r .ring .ensures) _ (p .page-for .ensures .0) _ (f .found .given .1) _ (l .live .ensures) _ _ (v .put-value .ensures) _ (p .page-for .ensures .1)
+    write-done _ _ _ _ _ (s .pre .0) (sym (s .pre .1)) refl _ (r .ring .ensures) _ (p .page-for .ensures .0) _ (f .chosen .given .1) _ (l .live .ensures) _ _ (v .put-value .ensures) _ (p .page-for .ensures .1)
 
 returns-2 : tie.Need-returns-2
 returns-2 c =

@@ -4,14 +4,17 @@ use borrow.Author.Needs.{needs}
 use Rattle.cache.proofs.place.Statement.{statement}
 use Rattle.cache.proofs.place.Tie as tie
 
-way-for-requires : tie.Need-way-for-requires
-way-for-requires c κs = search needs
+way-of-requires : tie.Need-way-of-requires
+way-of-requires c κs = search needs
 
 put-in-requires : tie.Need-put-in-requires
 put-in-requires c κs = search needs
 
 returns : tie.Need-returns
-returns c = let w : tie.After-way-for = search in put-taken _ _ _ _ _ _ (w .way-for .ensures) (c .put-in .ensures)
+returns c =
+    let s : tie.Start = search in
+    let w : tie.After-way-of = search in
+    put-taken _ _ _ _ _ _ _ (s .pre) (w .way-of .ensures) (c .put-in .ensures)
 
 pub place-spec : {M : Type 1} → statement M
-place-spec = tie.close (tie.spec way-for-requires put-in-requires returns)
+place-spec = tie.close (tie.spec way-of-requires put-in-requires returns)

@@ -6,7 +6,7 @@ ghost use Rattle.storage.specs.Steps.{givenRegisters};
 ghost use Rattle.border.specs.Lent.{registersFrom};
 
 // The registers that are lent.
-pub fn load(lent: &[u32; 8]) -> Registers
+pub fn read_registers(lent: &[u32; 8]) -> Registers
     ensures { λ r. ⌜ r ≡ registersFrom (now (lent .entry)) ⌝ }
 {
     Registers {
@@ -22,7 +22,7 @@ pub fn load(lent: &[u32; 8]) -> Registers
 }
 
 // Puts registers in their place.
-pub fn store(lent: &mut [u32; 8], registers: Registers)
+pub fn write_registers(lent: &mut [u32; 8], registers: Registers)
     ensures { λ _. ⌜ registersFrom (now (lent .exit)) ≡ registers ⌝ }
 {
     *lent = [
@@ -43,7 +43,7 @@ fn has_all(lent: [u32; 8])
 {}
 
 // Puts in their place how many pages are in use; the others stay.
-pub fn store_used(lent: &mut [u32; 8], used: u32)
+pub fn write_used(lent: &mut [u32; 8], used: u32)
     ensures { λ _. ⌜ registersFrom (now (lent .exit)) ≡ givenRegisters (registersFrom (now (lent .entry))) used ⌝ }
 {
     let all = *lent;

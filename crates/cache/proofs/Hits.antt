@@ -16,7 +16,7 @@ use Rattle.rules.proofs.Tests.{both-true}
 use Rattle.cache.specs.declared.Cache.{Cache}
 use Rattle.cache.specs.declared.Entry.{Entry}
 use Rattle.cache.specs.declared.Entry.the-variants.{Hit, Miss}
-use Rattle.cache.specs.Entries.{Sized, heldLine, isValid, home, isAt, found, isHit, wayTaken, entryTaken, Below, FoundAt, hitIn, ofFrame, isAtIn, isValidIn, freeWay, wayIn}
+use Rattle.cache.specs.Entries.{Sized, heldLine, isValid, home, isAt, found, isHit, wayTaken, entryTaken, AsksFound, FoundAt, hitIn, ofFrame, isAtIn, isValidIn, freeWay, wayIn}
 use Rattle.cache.specs.Shown.{lineIn, wayOf, shown}
 use Rattle.cache.proofs.Returns.{hit-some, at-line, found-first, found-second, found-none, taken-first, taken-second}
 
@@ -169,7 +169,7 @@ found-below lines valid l r e d h =
     found-at (record { held = lines; origins = []; valid = valid; bytes = []; last = [] }) l e (sym d ∙ h) .below
 
 -- and one that hands it on.
-pub found-few : (lines valid : List ℕ) (l : ℕ) (r : Entry) → r ≡ hitIn lines valid l → Below r
+pub found-few : (lines valid : List ℕ) (l : ℕ) (r : Entry) → r ≡ hitIn lines valid l → AsksFound r
 found-few lines valid l r d e h = found-below lines valid l r e d h
 
 -- An entry with a frame is the one that was found, and has the frame.

@@ -18,7 +18,7 @@ use Rattle.cache.specs.Entries.{home, wayTaken, hitIn, ofFrame, isHit, b
 use Rattle.lists.specs.Lists.{rewrite}
 use Rattle.lists.specs.Lines.{pasteLine, AsksBytes}
 use Rattle.lists.proofs.Values.{line-value, line-edit}
-use Rattle.cache.specs.Steps.{archiveFrame, putIn, placedIn, isBelow, isDropped, flagAfter, flagsAfter, frameAfter, framesAfter}
+use Rattle.cache.specs.Steps.{archiveFrame, placedIn, isBelow, isDropped, flagAfter, flagsAfter, frameAfter, framesAfter}
 
 module _ (valid : List ℕ) (e : ℕ) where
   pub valid-one : getD valid e 0 ≡ 1 → true ≡ isValidIn valid e
@@ -176,19 +176,16 @@ module _ (origins : List ℕ) (f : ℕ) (r : Entry) where
   unfolding ofFrame
   of-none h = sym (ap (ofFrame origins f) h)
 
--- the arrays after a line is put in a way
-pub put-done : (c : Cache) (line way frame : ℕ) (content lines frames valid bytes last : List ℕ)
+-- the arrays after a use of a line, by the entry found for it
+pub placed-done : (c : Cache) (line frame way : ℕ) (content lines frames valid bytes last : List ℕ) (r : Entry) → r ≡ hitIn (c .held) (c .valid) line
+    → (way ≡ wayFrom (c .valid) (c .last) line r) × (way < 2)
     → lines ≡ set (c .held) (home line + way) line → frames ≡ set (c .origins) (home line + way) frame → valid ≡ set (c .valid) (home line + way) 1
     → bytes ≡ pasteLine (c .bytes) (16 * (home line + way)) content → last ≡ set (c .last) (setOf line) way
-    → record { held = lines; origins = frames; valid = valid; bytes = bytes; last = last } ≡ putIn c line way frame content
-unfolding putIn
-put-done c line way frame content lines frames valid bytes last el ef ev eb ea = cc (el, ef, ev, eb, ea)
-
--- and in the way that a use takes
-pub put-taken : (c : Cache) (line way frame : ℕ) (content : List ℕ) (after : Cache) (r : Entry) → r ≡ hitIn (c .held) (c .valid) line
-    → (way ≡ wayFrom (c .valid) (c .last) line r) × (way < 2) → after ≡ putIn c line way frame content → after ≡ placedIn c line frame content
-put-taken c line way frame content after r h w e =
-    e ∙ ap (λ (n : ℕ). putIn c line n frame content) (w .0 ∙ way-found (c .held) (c .valid) (c .last) line r h)
+    → record { held = lines; origins = frames; valid = valid; bytes = bytes; last = last } ≡ placedIn c line frame content
+unfolding placedIn
+placed-done c line frame way content lines frames valid bytes last r h w el ef ev eb ea =
+    let taken : way ≡ wayTaken c line = w .0 ∙ way-found (c .held) (c .valid) (c .last) line r h in
+    cc (taken, el, ef, ev, eb, ea)
 
 -- the loops' ends
 module _ (frames omf n i : ℕ) (before now : List ℕ) (most : i ≤ 32) (least : 32 ≤ i) where

@@ -18,7 +18,7 @@ use Rattle.rules.specs.Figure3.{Way, Ways, WellCache, setOf, emptyCache, use-li
 use Rattle.cache.specs.declared.Cache.{Cache}
 use Rattle.cache.specs.declared.Entry.the-variants.{Hit}
 use Rattle.cache.specs.Entries.{cacheOf, Sized, heldLine, heldFrame, isValid, heldBytes, home, found, wayTaken, entryTaken, Has, SameAt, All, bytesIn, isValidIn}
-use Rattle.cache.specs.Steps.{emptied, putIn, placedIn}
+use Rattle.cache.specs.Steps.{emptied, placedIn}
 use Rattle.cache.specs.Shown.{lineIn, wayOf, shown}
 use Rattle.lists.specs.Lines.{lineAt, pasteLine}
 use Rattle.lists.proofs.Lines.{paste-own, length-written, read-own, read-other, apart}
@@ -38,7 +38,7 @@ module _ (c : Cache) (s : Sized c) (l f : ℕ) (bytes : List ℕ) (n : length by
   room = entry-room (c .bytes) (entryTaken c l) (s .bytes) (taken-below c l)
 
   pub placed-sized : Sized (placedIn c l f bytes)
-  unfolding putIn
+  unfolding placedIn
   placed-sized =
       record {
         held = length-set (c .held) (entryTaken c l) l ∙ s .held;
@@ -50,7 +50,7 @@ module _ (c : Cache) (s : Sized c) (l f : ℕ) (bytes : List ℕ) (n : length by
 
   -- the entry taken has the line, the frame and the bytes
   pub placed-has : Has (placedIn c l f bytes) (entryTaken c l) l f bytes
-  unfolding putIn isValidIn bytesIn
+  unfolding placedIn isValidIn bytesIn
   placed-has =
       record {
         valid =
@@ -62,7 +62,7 @@ module _ (c : Cache) (s : Sized c) (l f : ℕ) (bytes : List ℕ) (n : length by
 
   -- and every other entry what it had
   pub placed-same : (e : ℕ) → e ≢ entryTaken c l → SameAt e (placedIn c l f bytes) c
-  unfolding putIn isValidIn bytesIn
+  unfolding placedIn isValidIn bytesIn
   placed-same e d =
       record {
         valid = ap (λ (x : ℕ). eqb x 1) (getD-set-other (c .valid) (entryTaken c l) e 1 0 d);
@@ -84,7 +84,7 @@ module _ (c : Cache) (s : Sized c) (l f : ℕ) (bytes : List ℕ) (n : length by
 
   -- a use is Figure 3's
   own-set : (w : ℕ) → wayTaken c l ≡ w → w < 2 → shown (placedIn c l f bytes) (setOf l) ≡ figure.placed l (wayOf w) (shown c (setOf l))
-  unfolding shown putIn figure.placed wayOf
+  unfolding shown placedIn figure.placed wayOf
   own-set zero p b =
       let d : entryTaken c l ≡ home l = omega arith in
       same-ways (subst (λ (e : ℕ). lineIn (placedIn c l f bytes) e ≡ some l) d in-own) (in-same (home l + 1) (λ q. omega (arith, q)))
@@ -96,7 +96,7 @@ module _ (c : Cache) (s : Sized c) (l f : ℕ) (bytes : List ℕ) (n : length by
   own-set (suc (suc w)) p b = absurd (omega arith)
 
   pub placed-shown : shown (placedIn c l f bytes) ≡ use-line l (shown c)
-  unfolding shown use-line putIn
+  unfolding shown use-line placedIn
   placed-shown = fun-ext (λ set. go set (eqb (setOf l) set) refl)
     where
       go : (set : ℕ) (b : Bool) → eqb (setOf l) set ≡ b
@@ -154,7 +154,7 @@ empty-sized = record { held = refl; origins = refl; valid = refl; bytes = refl; 
 -- A use of a line that the cache holds, with its entry's frame and other bytes: the line, the frame and the flag stay.
 pub hit-edited : (c : Cache) (l e : ℕ) → found c l ≡ Hit e → (content bytes last : List ℕ) → bytes ≡ pasteLine (c .bytes) (16 * e) content
     → last ≡ set (c .last) (e / 2) (e % 2) → cacheOf (c .held) (c .origins) (c .valid) bytes last ≡ placedIn c l (heldFrame c e) content
-unfolding putIn isValidIn
+unfolding placedIn isValidIn
 hit-edited c l e h content bytes last edited after =
     let f = found-at c l e h in
     let way : e % 2 ≡ wayTaken c l = omega (arith, f .taken, way-below c l) in

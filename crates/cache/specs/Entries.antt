@@ -66,16 +66,16 @@ unfoldable pub ofFrame : (origins : List ℕ) → (frame : ℕ) → Entry → En
 ofFrame origins f (Hit e) = cond (eqb (getD origins e 0) f) (Hit e) Miss
 ofFrame origins f Miss = Miss
 
--- One of the 32.
-abbrev pub Below : Entry → Type 0
-Below r = (e : ℕ) → r ≡ Hit e → e < 32
+-- What is asked of an entry that is handed on: a hit is one of the 32.
+abbrev pub AsksFound : Entry → Type 0
+AsksFound r = (e : ℕ) → r ≡ Hit e → e < 32
 
 -- Whether there is one.
 unfoldable pub isHit : Entry → Bool
 isHit (Hit e) = true
 isHit Miss = false
 
--- The way of a set that a line takes which is in none: "A miss, of a read or a write, takes way 0 if it is invalid, else way 1 if that is
+-- The way of its set that a line takes which is in neither: "A miss, of a read or a write, takes way 0 if it is invalid, else way 1 if that is
 -- invalid, else the less recently used way".
 unfoldable pub freeWay : (valid last : List ℕ) → (set : ℕ) → ℕ
 freeWay valid last s =

@@ -1,5 +1,5 @@
 -- What each call does to the cache.
-use Prim.Native.Nat.{ℕ, _+_, _*_}
+use Prim.Native.Nat.{ℕ, _*_}
 use mathlib.Core.Bool.{Bool, cond, not, _&&_}
 use mathlib.Core.List.{List}
 use lib.Dec.{eqb, ltb}
@@ -9,7 +9,7 @@ use Rattle.lists.specs.Lists.{rewrite}
 use Rattle.lists.specs.Lines.{pasteLine}
 use Rattle.frames.specs.Circle.{indexOf}
 use Rattle.cache.specs.declared.Cache.{Cache}
-use Rattle.cache.specs.Entries.{cacheOf, home, wayTaken}
+use Rattle.cache.specs.Entries.{cacheOf, wayTaken, entryTaken}
 
 -- The frame number of an entry whose line's most recent version is the archive's.
 abbrev pub archiveFrame : ℕ
@@ -20,21 +20,17 @@ unfoldable pub emptied : Cache
 emptied =
     record { held = replicate 32 0; origins = replicate 32 0; valid = replicate 32 0; bytes = replicate 512 0; last = replicate 16 0 }
 
--- A line put in a way of its set, with a frame and bytes; the way was used last.
-unfoldable pub putIn : Cache → (line way frame : ℕ) → List ℕ → Cache
-putIn c line way frame bytes =
-    record {
-      held = set (c .held) (home line + way) line;
-      origins = set (c .origins) (home line + way) frame;
-      valid = set (c .valid) (home line + way) 1;
-      bytes = pasteLine (c .bytes) (16 * (home line + way)) bytes;
-      last = set (c .last) (setOf line) way;
-    }
-
 -- A use of a line, by a read or a write, hit or miss: its way has the line with this frame and these bytes. "the way taken becomes
 -- most recently used", "A hit moves its way to most recently used", "It is write-through".
-abbrev pub placedIn : Cache → (line frame : ℕ) → List ℕ → Cache
-placedIn c line frame bytes = putIn c line (wayTaken c line) frame bytes
+unfoldable pub placedIn : Cache → (line frame : ℕ) → List ℕ → Cache
+placedIn c line frame bytes =
+    record {
+      held = set (c .held) (entryTaken c line) line;
+      origins = set (c .origins) (entryTaken c line) frame;
+      valid = set (c .valid) (entryTaken c line) 1;
+      bytes = pasteLine (c .bytes) (16 * entryTaken c line) bytes;
+      last = set (c .last) (setOf line) (wayTaken c line);
+    }
 
 -- Whether a frame number lies on the circle with an index from OMF below n.
 unfoldable pub isBelow : (frames omf n frame : ℕ) → Bool

@@ -1,5 +1,5 @@
 // The cache: 16 sets of two ways, a struct by value. The functions take its arrays where they lie, and are safe on any contents of them.
-// Those with a `requires` are called by our own crates alone, which test what it asks.
+// Those with a `requires` are called by our own crates alone, which test what it asks, or hand on what `find` gave.
 ghost use mathlib.Core.Path.{_≡_};
 ghost use Prim.Native.Nat.{_*_, _/_, _%_, _<_};
 ghost use lib.ListN;
@@ -8,8 +8,8 @@ ghost use Rattle.rules.specs.Figure3.{emptyCache};
 ghost use Rattle.rules.specs.Line.{valueAt, edit};
 ghost use Rattle.frames.specs.Circle.{Turn};
 ghost use Rattle.lists.specs.Lines.{pasteLine, AsksBytes};
-ghost use Rattle.cache.specs.Entries.{cacheOf, isValidIn, bytesIn, heldBytes, isAtIn, hitIn, ofFrame, Below, freeWay, wayFrom};
-ghost use Rattle.cache.specs.Steps.{emptied, putIn, placedIn, isBelow, flagAfter, flagsAfter, frameAfter, framesAfter};
+ghost use Rattle.cache.specs.Entries.{cacheOf, isValidIn, bytesIn, heldBytes, isAtIn, hitIn, ofFrame, AsksFound, freeWay, wayFrom};
+ghost use Rattle.cache.specs.Steps.{emptied, placedIn, isBelow, flagAfter, flagsAfter, frameAfter, framesAfter};
 ghost use Rattle.cache.specs.Shown.{shown};
 
 // The entry of a set's way is 2 * set + way.
@@ -97,7 +97,7 @@ pub fn find<'a>(held: &'a [u32; 32], valid: &'a [u8; 32], line: u32) -> Entry
 
 // An entry that was found, if it has this frame.
 pub fn of_frame(origins: &[u16; 32], found: Entry, frame: u32) -> Entry
-    requires { ⌜ Below found ⌝ }
+    requires { ⌜ AsksFound found ⌝ }
     ensures { λ r. ⌜ r ≡ ofFrame (now (origins .entry)) frame found ⌝ }
 {
     match found {
@@ -111,7 +111,7 @@ pub fn of_frame(origins: &[u16; 32], found: Entry, frame: u32) -> Entry
     }
 }
 
-// The way of a set that a line takes which is in none.
+// The way of its set that a line takes which is in neither.
 fn free_way<'a>(valid: &'a [u8; 32], last: &'a [u8; 16], set: u32) -> u32
     requires { ⌜ set < 16 ⌝ }
     ensures { λ r. ⌜ (r ≡ freeWay (now (valid .entry)) (now (last .entry)) set) × (r < 2) ⌝ }
@@ -239,31 +239,6 @@ fn set_last(last: &mut [u8; 16], set: u32, way: u32)
     last[at] = way as u8;
 }
 
-// Puts a line in a way of its set, with this frame and these bytes; the way was used last.
-fn put_in(
-    held: &mut [u32; 32],
-    origins: &mut [u16; 32],
-    valid: &mut [u8; 32],
-    bytes: &mut [u8; 512],
-    last: &mut [u8; 16],
-    line: u32,
-    way: u32,
-    frame: u16,
-    content: [u8; 16],
-)
-    requires { ⌜ way < 2 ⌝ }
-    ensures { λ _. ⌜ cacheOf (now (held .exit)) (now (origins .exit)) (now (valid .exit)) (now (bytes .exit)) (now (last .exit))
-        ≡ putIn (cacheOf (now (held .entry)) (now (origins .entry)) (now (valid .entry)) (now (bytes .entry)) (now (last .entry))) line way frame content ⌝ }
-{
-    let set = line % 16;
-    let entry = 2 * set + way;
-    set_line(held, entry, line);
-    set_frame(origins, entry, frame);
-    set_valid(valid, entry);
-    set_bytes(bytes, entry, content);
-    set_last(last, set, way);
-}
-
 // A use of a line, by a read or a write: the way taken has it with this frame and these bytes and was used last. The set is not looked up
 // again: the entry that was found for the line, if one was, is handed on.
 pub fn place(
@@ -282,7 +257,13 @@ pub fn place(
         ≡ placedIn (cacheOf (now (held .entry)) (now (origins .entry)) (now (valid .entry)) (now (bytes .entry)) (now (last .entry))) line frame content ⌝ }
 {
     let way = way_of(valid, last, line, found);
-    put_in(held, origins, valid, bytes, last, line, way, frame, content);
+    let set = line % 16;
+    let entry = 2 * set + way;
+    set_line(held, entry, line);
+    set_frame(origins, entry, frame);
+    set_valid(valid, entry);
+    set_bytes(bytes, entry, content);
+    set_last(last, set, way);
 }
 
 // A use of the line that an entry holds: its way was used last, and the entry stays as it is.

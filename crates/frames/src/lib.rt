@@ -1,4 +1,4 @@
-// The circle of frames: frame numbers are compared only by their index from OMF. The pool's pages turn on it too, from the page where the
+// The circle of frames: frame numbers are put in order only by their index from OMF. The pool's pages turn on it too, from the page where the
 // needed ones start. The functions are called by our own crates alone, which test what a `requires` asks.
 ghost use mathlib.Core.Path.{_≡_};
 ghost use Prim.Native.Nat.{_+_, _%_};
@@ -36,7 +36,7 @@ pub fn live(frames: u32, omf: u32, cmf: u32) -> u32
     index(frames, omf, cmf) + 1
 }
 
-// The frame behind a frame, round the circle.
+// The frame behind a frame, round the circle. (`Turn` asks the same of OMF and of a place; here both are the frame.)
 pub fn next(frames: u32, frame: u32) -> u32
     requires { ⌜ Turn frames frame frame ⌝ }
     ensures { λ r. ⌜ r ≡ (frame + 1) % frames ⌝ }

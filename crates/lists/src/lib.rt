@@ -1,5 +1,5 @@
-// Lists rewritten element by element, and lines of 16 bytes and values of some bytes in lists of bytes. The functions are called by our own crates alone, which test
-// what a `requires` asks.
+// Lists rewritten element by element, and lines of 16 bytes and values of some bytes in lists of bytes. The functions are called by our own
+// crates alone, which test what a `requires` asks.
 ghost use mathlib.Core.Path.{_≡_};
 ghost use Prim.Native.Nat.{_+_, _≤_};
 ghost use lib.ListN.{length};

@@ -278,9 +278,6 @@ pub line-told : (s : Registers) (p : Pieces) (r l : ℕ) → r ≡ admitted s p 
 line-told s p r l e = (e, line-room s p r l e)
 
 -- The same over the pieces that were measured.
-pub line-measured : {s : Registers} {p n : Pieces} {l : ℕ} → p ≡ n → LineRoom s p l → LineRoom s n l
-line-measured {s = s} {l = l} e = subst (λ (m : Pieces). LineRoom s m l) e
-
 pub place-measured : {s : Registers} {p n : Pieces} {w a : ℕ} → p ≡ n → PlaceRoom s p w a → PlaceRoom s n w a
 place-measured {s = s} {w = w} {a = a} e = subst (λ (m : Pieces). PlaceRoom s m w a) e
 

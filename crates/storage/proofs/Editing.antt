@@ -21,7 +21,7 @@ use Rattle.rules.specs.Promise.{Followed, settingsFor}
 use Rattle.rules.proofs.Promise.{lacking-own, accept}
 use Rattle.rules.proofs.Chain.{Placed}
 use Rattle.rules.proofs.Line.{length-edit}
-use Rattle.frames.specs.Circle.{indexOf, frameAt}
+use Rattle.frames.specs.Circle.{indexOf}
 use Rattle.frames.proofs.Circle.{index-frame}
 use Rattle.numbers.specs.declared.Found.{Found}
 use Rattle.numbers.specs.declared.Found.the-variants.{At, Nothing}
@@ -37,7 +37,7 @@ use Rattle.pages.proofs.Needs.{effective-needed}
 use Rattle.cache.specs.declared.Entry.{Entry}
 use Rattle.cache.specs.declared.Entry.the-variants.{Hit}
 use Rattle.cache.specs.Entries.{cacheOf, bytesIn, found, ofFrame, heldFrame, FoundAt}
-use Rattle.cache.specs.Steps.{placedIn, archiveFrame}
+use Rattle.cache.specs.Steps.{placedIn}
 use Rattle.cache.proofs.Hits.{found-at, of-hit}
 use Rattle.cache.proofs.Uses.{hit-edited}
 use Rattle.versions.specs.declared.Spot.the-variants.{Page, Archive}

@@ -35,7 +35,7 @@ pub struct State {
     pub cache: Cache,
 }
 
-// The pages in use after a WRITE or a block of them, which leave the other registers, and the refusal or 0.
+// The pages in use after a WRITE or a block of them, which leave the other registers as they are, and the refusal or 0.
 pub struct Given {
     pub used: u32,
     pub refusal: u32,

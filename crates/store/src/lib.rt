@@ -1,5 +1,5 @@
 // The store: every call of document 01, in memory that the caller lends, on a state that goes in and comes back by value. RESET and CHECK are
-// done here; the other calls are those of `access` and `marks`, which take the cache's arrays where they lie.
+// done here; the other calls are those of `access`, `writing`, `write_blocks` and `marks`, which take the cache's arrays where they lie.
 use cache::Cache;
 pub use marks::Counted;
 use pages::Ring;
@@ -8,7 +8,6 @@ pub use rules::sizes;
 pub use storage::Outcome;
 pub use storage::Registers;
 pub use storage::State;
-pub use storage::Step;
 pub use versions::Origin;
 use written::Shape;
 ghost use mathlib.Core.Path.{_≡_};
@@ -126,7 +125,7 @@ pub fn write(
     let mut valid = cache.valid;
     let mut bytes = cache.bytes;
     let mut last = cache.last;
-    let given = access::write(
+    let given = writing::write(
         state.registers,
         &mut held,
         &mut origins,

@@ -148,8 +148,8 @@ pub extern "C" fn vcm_raw_write(
         width address value r
         (storageOf (stateOf (registersFrom (now (registers .exit))) (cacheOf (now (held .exit)) (now (origins .exit)) (now (valid .exit)) (now (bytes .exit)) (now (last .exit)))) (now (archive .entry)) (now (pool .exit)) (now (groups .exit)) (now (table .exit)) (now (owners .exit)) (now (history .entry))) ⌝ }
 {
-    let given = access::write(
-        border::load(registers),
+    let given = writing::write(
+        border::read_registers(registers),
         held,
         origins,
         valid,
@@ -165,7 +165,7 @@ pub extern "C" fn vcm_raw_write(
         address,
         value,
     );
-    border::store_used(registers, given.used);
+    border::write_used(registers, given.used);
     given.refusal
 }
 
@@ -193,7 +193,7 @@ pub extern "C" fn vcm_raw_read(
         (storageOf (stateOf (registersFrom (now (registers .entry))) (cacheOf (now (held .exit)) (now (origins .exit)) (now (valid .exit)) (now (bytes .exit)) (now (last .exit)))) (now (archive .entry)) (now (pool .entry)) (now (groups .entry)) (now (table .entry)) (now (owners .entry)) (now (history .entry))) ⌝ }
 {
     let r = access::read(
-        border::load(registers),
+        border::read_registers(registers),
         held,
         origins,
         valid,
@@ -217,7 +217,7 @@ pub extern "C" fn vcm_raw_read(
     }
 }
 
-// LINE: puts the 16 bytes of the line's most recent version into the caller's, and gives the refusal or 0; refused, they stay. It tests once.
+// LINE: puts the 16 bytes of the line's most recent version into the caller's, and gives the refusal or 0; refused, they stay.
 #[no_mangle]
 pub extern "C" fn vcm_raw_line<'a>(
     registers: &[u32; 8],
@@ -232,7 +232,7 @@ pub extern "C" fn vcm_raw_line<'a>(
 ) -> u32
     ensures { λ r. ⌜ CopiesLine (registersFrom (now (registers .entry))) (memoryOf (now (archive .entry)) (now (pool .entry)) (now (groups .entry)) (now (table .entry)) (now (owners .entry)) (now (history .entry))) line r (now (bytes .entry)) (now (bytes .exit)) ⌝ }
 {
-    let loaded = border::load(registers);
+    let loaded = border::read_registers(registers);
     let lengths = storage::measure(archive, pool, groups, table, owners, history);
     let refusal = storage::admit_line(loaded, lengths, line);
     if refusal != 0 {
@@ -258,7 +258,7 @@ pub extern "C" fn vcm_raw_line_refusal(
     ensures { λ r. ⌜ Looks (LINE-REFUSAL line) (registersFrom (now (registers .entry))) (memoryOf (now (archive .entry)) (now (pool .entry)) (now (groups .entry)) (now (table .entry)) (now (owners .entry)) (now (history .entry))) (outcome r) ⌝ }
 {
     access::line_refusal(
-        border::load(registers),
+        border::read_registers(registers),
         archive,
         pool,
         groups,
@@ -283,7 +283,7 @@ pub extern "C" fn vcm_raw_mark(
     ensures { λ r. ⌜ MarksIn (registersFrom (now (registers .entry))) (memoryOf (now (archive .entry)) (now (pool .entry)) (now (groups .entry)) (now (table .entry)) (now (owners .entry)) (now (history .entry))) r (registersFrom (now (registers .exit))) ⌝ }
 {
     let step = marks::mark(
-        border::load(registers),
+        border::read_registers(registers),
         archive,
         pool,
         groups,
@@ -291,7 +291,7 @@ pub extern "C" fn vcm_raw_mark(
         owners,
         history,
     );
-    border::store(registers, step.registers);
+    border::write_registers(registers, step.registers);
     step.refusal
 }
 
@@ -313,7 +313,7 @@ pub extern "C" fn vcm_raw_rollback(
         (memoryOf (now (archive .entry)) (now (pool .entry)) (now (groups .exit)) (now (table .entry)) (now (owners .entry)) (now (history .exit))) ⌝ }
 {
     let step = marks::rollback(
-        border::load(registers),
+        border::read_registers(registers),
         origins,
         valid,
         archive,
@@ -324,7 +324,7 @@ pub extern "C" fn vcm_raw_rollback(
         history,
         k,
     );
-    border::store(registers, step.registers);
+    border::write_registers(registers, step.registers);
     step.refusal
 }
 
@@ -345,7 +345,7 @@ pub extern "C" fn vcm_raw_advance(
         (memoryOf (now (archive .exit)) (now (pool .entry)) (now (groups .exit)) (now (table .entry)) (now (owners .entry)) (now (history .exit))) ⌝ }
 {
     let step = marks::advance(
-        border::load(registers),
+        border::read_registers(registers),
         origins,
         archive,
         pool,
@@ -355,7 +355,7 @@ pub extern "C" fn vcm_raw_advance(
         history,
         k,
     );
-    border::store(registers, step.registers);
+    border::write_registers(registers, step.registers);
     step.refusal
 }
 
@@ -373,7 +373,7 @@ pub extern "C" fn vcm_raw_counts(
     ensures { λ r. ⌜ Looks COUNTS (registersFrom (now (registers .entry))) (memoryOf (now (archive .entry)) (now (pool .entry)) (now (groups .entry)) (now (table .entry)) (now (owners .entry)) (now (history .entry))) (counting (r .refusal) (r .live) (r .pages)) ⌝ }
 {
     marks::counts(
-        border::load(registers),
+        border::read_registers(registers),
         archive,
         pool,
         groups,

@@ -30,7 +30,7 @@ pub extern "C" fn vcm_raw_write_block(
         (storageOf (stateOf (registersFrom (now (registers .exit))) (cacheOf (now (held .exit)) (now (origins .exit)) (now (valid .exit)) (now (bytes .exit)) (now (last .exit)))) (now (archive .entry)) (now (pool .exit)) (now (groups .exit)) (now (table .exit)) (now (owners .exit)) (now (history .entry))) ⌝ }
 {
     let given = write_blocks::write_block(
-        border::load(registers),
+        border::read_registers(registers),
         held,
         origins,
         valid,
@@ -45,6 +45,6 @@ pub extern "C" fn vcm_raw_write_block(
         items,
         answers,
     );
-    border::store_used(registers, given.used);
+    border::write_used(registers, given.used);
     given.refusal
 }

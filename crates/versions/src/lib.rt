@@ -15,7 +15,7 @@ ghost use Rattle.written.specs.Steps.{withWritten};
 ghost use Rattle.pages.specs.Lines.{withPageLine};
 ghost use Rattle.pages.specs.Table.{placeAt, entryAt, AsksEntry};
 ghost use Rattle.pages.specs.Ring.{indexAt, Leads};
-ghost use Rattle.cache.specs.Entries.{Below};
+ghost use Rattle.cache.specs.Entries.{AsksFound};
 ghost use Rattle.versions.specs.Newest.{spotOf, contentOf, newestOf, latestFrom, AsksSpot, AsksContent, AsksNewest};
 ghost use Rattle.versions.specs.Steps.{zeroed, foldedLine, foldedPage, foldedPages, clearedPage, clearedPages, pageFor, usedFor, AsksPageFor, AsksPut, AsksCopy, AsksFold, AsksGone};
 
@@ -125,7 +125,7 @@ pub fn latest(
     line: u32,
     found: Entry,
 ) -> Version
-    requires { ⌜ (AsksNewest (writtenAt shape (now groups) (now history)) pages live line (now archive) (now pool) (now table)) × (Below found) ⌝ }
+    requires { ⌜ (AsksNewest (writtenAt shape (now groups) (now history)) pages live line (now archive) (now pool) (now table)) × (AsksFound found) ⌝ }
     ensures { λ r. ⌜ r ≡ latestFrom (now (origins .entry)) (now (bytes .entry)) (newestOf (writtenAt shape (now (groups .entry)) (now (history .entry))) pages live (now (archive .entry)) (now (pool .entry)) (now (table .entry)) line) found ⌝ }
 {
     match found {

@@ -1,5 +1,5 @@
 // A block of writes: many WRITEs in one call. 5, 6 and 14 are tested once; each item is then done as a single WRITE is. The registers go by
-// value and the cache's arrays are changed where they lie, as in `access`.
+// value and the cache's arrays are changed where they lie, as in `writing`.
 use storage::Given;
 use storage::Registers;
 ghost use mathlib.Core.Path.{_≡_};
@@ -68,7 +68,7 @@ pub fn write_block(
         let item = item_at(items, i);
         let mut current = registers;
         current.used = used;
-        let given = access::write_admitted(
+        let given = writing::write_admitted(
             current,
             held,
             origins,

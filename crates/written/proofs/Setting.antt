@@ -40,6 +40,10 @@ pub set-told : (w : Written) (l i tag f g b r : ℕ) (after : List ℕ) → f �
 unfolding withWritten
 set-told w l i tag f g b r after ef eg eb er e = cc
 
+pub regroup-told : (frames omf f bound tag g kept r : ℕ) → kept ≡ windowOf frames omf (f / 16) g 0 bound → r ≡ setAt kept (f % 16) → tag * 65536 + r ≡ regrouped frames omf f bound tag g
+unfolding regrouped
+regroup-told frames omf f bound tag g kept r ek er = ap (λ (n : ℕ). tag * 65536 + n) (er ∙ ap (λ (n : ℕ). setAt n (f % 16)) ek)
+
 -- The parts of a group with its tag.
 pub tagged-tag : (tag b : ℕ) → tag < 256 → b < 65536 → tagOf (tagged tag b) ≡ tag
 tagged-tag tag b h k = omega arith

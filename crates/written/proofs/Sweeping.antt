@@ -23,6 +23,9 @@ count-few lines frames a b = mul-le-mul {n₁ = frames / 16} {m₁ = lines} {n�
 pub masked-bare : (g s u : ℕ) (history : List ℕ) → (u ≤ 16) × (256 ≤ length history) → g % 65536 ≡ 0 → 0 ≡ cutOf g s u 0 (boundOf history g)
 masked-bare g s u history few e = sym (cut-none g s u 0 (boundOf history g) (few .0) e)
 
+pub masked-cut : (g s u bound end r : ℕ) → (bound ≡ end) × (bound < 65536) → (r ≡ cutOf g s u 0 bound) × (r < 65536) → r ≡ cutOf g s u 0 end
+masked-cut g s u bound end r eb e = e .0 ∙ ap (cutOf g s u 0) (eb .0)
+
 pub masked-told : (frames omf area g s u r : ℕ) (history : List ℕ) → (s ≡ firstIndex frames omf area) × (s < frames) → u ≡ min 16 (frames - s)
     → r ≡ cutOf g s u 0 (boundOf history g) → r ≡ maskedOf frames omf area history g
 unfolding maskedOf windowOf

@@ -26,7 +26,8 @@ withWritten w tag l i =
     let g = getD (w .groups) at 0 in
     set (w .groups) at (regrouped (w .frames) (w .omf) f (boundOf (w .history) g) tag g)
 
--- A line that is written in a frame already, with the current tag: a group whose upper 16 bits are just that tag stays as it is.
+-- A line that is written in a frame already, with the current tag: a group whose upper 16 bits are just that tag stays as it is, any other is
+-- masked and tagged as by a write.
 unfoldable pub renewed : Written → (tag line frame : ℕ) → List ℕ
 renewed w tag l f =
     cond (eqb (getD (w .groups) (placeOf (w .lines) (f / 16) l) 0 / 65536) tag) (w .groups) (withWritten w tag l (indexOf (w .frames) (w .omf) f))

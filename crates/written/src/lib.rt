@@ -301,8 +301,8 @@ pub fn set(groups: &mut [u32], history: &[u16], shape: Shape, tag: u32, line: u3
     put_group(groups, shape, frame / 16, line, after);
 }
 
-// Gives a line that is written in a frame already the current tag. A group whose upper 16 bits are just that tag stays as it is; the upper
-// byte may hold anything, and is cleared with the rest.
+// Gives a line that is written in a frame already the current tag. A group whose upper 16 bits are just that tag stays as it is; any other, also
+// one with something in its upper byte, is masked and tagged as by `set`, which clears that byte.
 pub fn renew(groups: &mut [u32], history: &[u16], shape: Shape, tag: u32, line: u32, frame: u32)
     requires { ⌜ (Asks (writtenAt shape (now groups) (now history)) line frame) × (tag < 256) ⌝ }
     ensures { λ _. ⌜ now (groups .exit) ≡ renewed (writtenAt shape (now (groups .entry)) (now (history .entry))) tag line frame ⌝ }

@@ -4,14 +4,14 @@ use borrow.Author.Needs.{needs}
 use Rattle.vcm.proofs.vcm_raw_advance.Statement.{statement}
 use Rattle.vcm.proofs.vcm_raw_advance.Tie as tie
 
-load-requires : tie.Need-load-requires
-load-requires c κs = search needs
+read-registers-requires : tie.Need-read-registers-requires
+read-registers-requires c κs = search needs
 
 advance-requires : tie.Need-advance-requires
 advance-requires c κs = search needs
 
-store-requires : tie.Need-store-requires
-store-requires c κs = search needs
+write-registers-requires : tie.Need-write-registers-requires
+write-registers-requires c κs = search needs
 
 same-length : tie.Need-same-length
 same-length c = search needs
@@ -24,15 +24,15 @@ same-length-3 c = search needs
 
 returns : tie.Need-returns
 returns c =
-    let l : tie.After-load = search in let s : tie.After-advance = search in rw (c .store .ensures, sym (l .load .ensures)) (s .advance .ensures)
+    let l : tie.After-read-registers = search in let s : tie.After-advance = search in rw (c .write-registers .ensures, sym (l .read-registers .ensures)) (s .advance .ensures)
 
 pub vcm-raw-advance-spec : {M : Type 1} → statement M
 vcm-raw-advance-spec =
     tie.close
     (tie.spec
-    load-requires
+    read-registers-requires
     advance-requires
-    store-requires
+    write-registers-requires
     same-length
     same-length-2
     same-length-3

@@ -10,8 +10,8 @@ use borrow.Author.Needs.{needs}
 use Rattle.vcm.proofs.vcm_raw_line.Statement.{statement}
 use Rattle.vcm.proofs.vcm_raw_line.Tie as tie
 
-load-requires : tie.Need-load-requires
-load-requires c κs = search needs
+read-registers-requires : tie.Need-read-registers-requires
+read-registers-requires c κs = search needs
 
 measure-requires : tie.Need-measure-requires
 measure-requires c κs = search needs
@@ -21,13 +21,13 @@ admit-line-requires c κs = search needs
 
 returns : tie.Need-returns
 returns c =
-    let l : tie.After-load = search in
+    let l : tie.After-read-registers = search in
     let m : tie.After-measure = search in
     let a : tie.After-admit-line = search in
     record {
       part = [];
-      lends = rw (sym (l .load .ensures)) (λ _. line-refused _ _ _ _ (m .measure .ensures) (a .admit-line .ensures .0) (c .if1 .taken));
-      companion = rw (sym (l .load .ensures)) (λ _. companion _ _ _ _ (m .measure .ensures) (a .admit-line .ensures .0));
+      lends = rw (sym (l .read-registers .ensures)) (λ _. line-refused _ _ _ _ (m .measure .ensures) (a .admit-line .ensures .0) (c .if1 .taken));
+      companion = rw (sym (l .read-registers .ensures)) (λ _. companion _ _ _ _ (m .measure .ensures) (a .admit-line .ensures .0));
       bytes-is = copied-none [] _ (λ e. omega (arith, e));
     }
 
@@ -39,15 +39,15 @@ copy-line-requires c κs = search needs
 
 returns-2 : tie.Need-returns-2
 returns-2 c =
-    let l : tie.After-load = search in
+    let l : tie.After-read-registers = search in
     let m : tie.After-measure = search in
     let a : tie.After-admit-line = search in
     let e : tie.Else1 = search in
     let p : tie.After-line-admitted = search in
     record {
       part = _;
-      lends = rw (l .load .ensures) at (p .line-admitted .ensures);
-      companion = rw (sym (l .load .ensures)) (λ _. companion _ _ _ _ (m .measure .ensures) (sym (e .if1 .left) ∙ a .admit-line .ensures .0));
+      lends = rw (l .read-registers .ensures) at (p .line-admitted .ensures);
+      companion = rw (sym (l .read-registers .ensures)) (λ _. companion _ _ _ _ (m .measure .ensures) (sym (e .if1 .left) ∙ a .admit-line .ensures .0));
       bytes-is = c .copy-line .ensures;
     }
 
@@ -55,7 +55,7 @@ pub vcm-raw-line-spec : {M : Type 1} → statement M
 vcm-raw-line-spec =
     tie.close
     (tie.spec
-    load-requires
+    read-registers-requires
     measure-requires
     admit-line-requires
     returns

@@ -4,14 +4,14 @@ use borrow.Author.Needs.{needs}
 use Rattle.vcm.proofs.vcm_raw_line_refusal.Statement.{statement}
 use Rattle.vcm.proofs.vcm_raw_line_refusal.Tie as tie
 
-load-requires : tie.Need-load-requires
-load-requires c κs = search needs
+read-registers-requires : tie.Need-read-registers-requires
+read-registers-requires c κs = search needs
 
 line-refusal-requires : tie.Need-line-refusal-requires
 line-refusal-requires c κs = search needs
 
 returns : tie.Need-returns
-returns c = let l : tie.After-load = search in rw (sym (l .load .ensures)) (c .line-refusal .ensures)
+returns c = let l : tie.After-read-registers = search in rw (sym (l .read-registers .ensures)) (c .line-refusal .ensures)
 
 pub vcm-raw-line-refusal-spec : {M : Type 1} → statement M
-vcm-raw-line-refusal-spec = tie.close (tie.spec load-requires line-refusal-requires returns)
+vcm-raw-line-refusal-spec = tie.close (tie.spec read-registers-requires line-refusal-requires returns)

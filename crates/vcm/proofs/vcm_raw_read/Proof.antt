@@ -3,8 +3,8 @@ use borrow.Author.Needs.{needs}
 use Rattle.vcm.proofs.vcm_raw_read.Statement.{statement}
 use Rattle.vcm.proofs.vcm_raw_read.Tie as tie
 
-load-requires : tie.Need-load-requires
-load-requires c κs = search needs
+read-registers-requires : tie.Need-read-registers-requires
+read-registers-requires c κs = search needs
 
 read-requires : tie.Need-read-requires
 read-requires c κs = search needs
@@ -17,12 +17,12 @@ marks-back-requires c κs = search needs
 
 returns : tie.Need-returns
 returns c =
-    let l : tie.After-load = search in
+    let l : tie.After-read-registers = search in
     let d : tie.After-read = search in
     let o : tie.After-origin-number = search in
-    record { found = _; reads = rw (l .load .ensures) at (d .read .ensures); origin-is = o .origin-number .ensures; back-is = c .marks-back .ensures }
+    record { found = _; reads = rw (l .read-registers .ensures) at (d .read .ensures); origin-is = o .origin-number .ensures; back-is = c .marks-back .ensures }
 
 pub vcm-raw-read-spec : {M : Type 1} → statement M
 vcm-raw-read-spec =
     tie.close
-    (tie.spec load-requires read-requires origin-number-requires marks-back-requires returns)
+    (tie.spec read-registers-requires read-requires origin-number-requires marks-back-requires returns)

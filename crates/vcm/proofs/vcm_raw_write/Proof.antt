@@ -4,14 +4,14 @@ use borrow.Author.Needs.{needs}
 use Rattle.vcm.proofs.vcm_raw_write.Statement.{statement}
 use Rattle.vcm.proofs.vcm_raw_write.Tie as tie
 
-load-requires : tie.Need-load-requires
-load-requires c κs = search needs
+read-registers-requires : tie.Need-read-registers-requires
+read-registers-requires c κs = search needs
 
 write-requires : tie.Need-write-requires
 write-requires c κs = search needs
 
-store-used-requires : tie.Need-store-used-requires
-store-used-requires c κs = search needs
+write-used-requires : tie.Need-write-used-requires
+write-used-requires c κs = search needs
 
 same-length : tie.Need-same-length
 same-length c = search needs
@@ -27,15 +27,15 @@ same-length-4 c = search needs
 
 returns : tie.Need-returns
 returns c =
-    let l : tie.After-load = search in let w : tie.After-write = search in rw (c .store-used .ensures, sym (l .load .ensures)) (w .write .ensures)
+    let l : tie.After-read-registers = search in let w : tie.After-write = search in rw (c .write-used .ensures, sym (l .read-registers .ensures)) (w .write .ensures)
 
 pub vcm-raw-write-spec : {M : Type 1} → statement M
 vcm-raw-write-spec =
     tie.close
     (tie.spec
-    load-requires
+    read-registers-requires
     write-requires
-    store-used-requires
+    write-used-requires
     same-length
     same-length-2
     same-length-3

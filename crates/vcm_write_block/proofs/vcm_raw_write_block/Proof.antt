@@ -4,14 +4,14 @@ use borrow.Author.Needs.{needs}
 use Rattle.vcm_write_block.proofs.vcm_raw_write_block.Statement.{statement}
 use Rattle.vcm_write_block.proofs.vcm_raw_write_block.Tie as tie
 
-load-requires : tie.Need-load-requires
-load-requires c κs = search needs
+read-registers-requires : tie.Need-read-registers-requires
+read-registers-requires c κs = search needs
 
 write-block-requires : tie.Need-write-block-requires
 write-block-requires c κs = search needs
 
-store-used-requires : tie.Need-store-used-requires
-store-used-requires c κs = search needs
+write-used-requires : tie.Need-write-used-requires
+write-used-requires c κs = search needs
 
 same-length : tie.Need-same-length
 same-length c = search needs
@@ -30,15 +30,15 @@ same-length-5 c = search needs
 
 returns : tie.Need-returns
 returns c =
-    let l : tie.After-load = search in let w : tie.After-write-block = search in rw (c .store-used .ensures, sym (l .load .ensures)) (w .write-block .ensures)
+    let l : tie.After-read-registers = search in let w : tie.After-write-block = search in rw (c .write-used .ensures, sym (l .read-registers .ensures)) (w .write-block .ensures)
 
 pub vcm-raw-write-block-spec : {M : Type 1} → statement M
 vcm-raw-write-block-spec =
     tie.close
     (tie.spec
-    load-requires
+    read-registers-requires
     write-block-requires
-    store-used-requires
+    write-used-requires
     same-length
     same-length-2
     same-length-3

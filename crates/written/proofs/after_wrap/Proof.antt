@@ -1,5 +1,5 @@
 -- `written::after_wrap` meets its contract. Assumes nothing.
-use Rattle.written.specs.Bits.{afterWrap}
+use Rattle.written.proofs.Windows.{after-told}
 use borrow.Author.Needs.{needs}
 use Rattle.written.proofs.after_wrap.Statement.{statement}
 use Rattle.written.proofs.after_wrap.Tie as tie
@@ -20,8 +20,8 @@ range-requires : tie.Need-range-requires
 range-requires c κs = search needs
 
 returns : tie.Need-returns
-unfolding afterWrap
-returns c = cc
+returns c =
+    let l : tie.After-min = search in let h : tie.After-min2 = search in after-told _ _ _ _ _ _ _ (l .min .ensures) (h .min2 .ensures) (c .range .ensures)
 
 pub after-wrap-spec : {M : Type 1} → statement M
 after-wrap-spec =

@@ -1,5 +1,5 @@
 -- `written::before_wrap` meets its contract. Assumes nothing.
-use Rattle.written.specs.Bits.{beforeWrap}
+use Rattle.written.proofs.Windows.{before-told}
 use borrow.Author.Needs.{needs}
 use Rattle.written.proofs.before_wrap.Statement.{statement}
 use Rattle.written.proofs.before_wrap.Tie as tie
@@ -20,8 +20,12 @@ range-requires : tie.Need-range-requires
 range-requires c κs = search needs
 
 returns : tie.Need-returns
-unfolding beforeWrap
-returns c = cc
+returns c =
+    let a : tie.After-saturating-sub = search in
+    let l : tie.After-min = search in
+    let b : tie.After-saturating-sub2 = search in
+    let h : tie.After-min2 = search in
+    before-told _ _ _ _ _ _ _ _ _ _ (a .saturating-sub .ensures) (l .min .ensures) (b .saturating-sub2 .ensures) (h .min2 .ensures) (c .range .ensures)
 
 pub before-wrap-spec : {M : Type 1} → statement M
 before-wrap-spec =

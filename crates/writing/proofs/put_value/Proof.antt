@@ -1,10 +1,10 @@
--- `access::put_value` meets its contract. Assumes nothing.
+-- `writing::put_value` meets its contract. Assumes nothing.
 use Rattle.cache.proofs.Hits.{found-few}
 use Rattle.storage.proofs.Storing.{put-told}
 use borrow.Author.Needs.{needs}
 use native.Mathlib.Omega.{arith}
-use Rattle.access.proofs.put_value.Statement.{statement}
-use Rattle.access.proofs.put_value.Tie as tie
+use Rattle.writing.proofs.put_value.Statement.{statement}
+use Rattle.writing.proofs.put_value.Tie as tie
 
 -- the places, each from a later one
 abbrev edited-at : tie.After-put → tie.After-edited
@@ -36,7 +36,8 @@ returns c =
     let p : tie.After-put = search in
     let e = edited-at p in
     let l : tie.After-latest = search in
-    put-told _ _ _ _ _ _ _ (shape-at e .shape .ensures) _ (start-at e .pre .1) _ (l .latest .ensures) _ (e .edited .ensures) (search (needs, e .edited .ok)) _ _ _ _ (p .put .ensures .0) (p .put .ensures .1 .0) (p .put .ensures .1 .1 .0)
+    put-told _ _ _ _ _ _ _ (shape-at e .shape .ensures) _ (start-at e .pre .1) _ (l .latest .ensures) _ (e .edited .ensures) (search (needs, e .edited .ok))
+    _ _ _ _ (p .put .ensures .0) (p .put .ensures .1 .0) (p .put .ensures .1 .1 .0)
     (p .put .ensures .1 .1 .1) _ (c .place .ensures)
 
 pub put-value-spec : {M : Type 1} → statement M

@@ -1,9 +1,9 @@
--- `border::load` meets its contract. Assumes nothing.
+-- `border::read_registers` meets its contract. Assumes nothing.
 use mathlib.Core.Path.{refl}
 use Rattle.border.specs.Lent.{registersFrom}
 use borrow.Author.Needs.{needs}
-use Rattle.border.proofs.load.Statement.{statement}
-use Rattle.border.proofs.load.Tie as tie
+use Rattle.border.proofs.read_registers.Statement.{statement}
+use Rattle.border.proofs.read_registers.Tie as tie
 
 element-copy-out-t4 : tie.Need-element-copy-out-t4
 element-copy-out-t4 c = search needs
@@ -33,8 +33,8 @@ returns : tie.Need-returns
 unfolding registersFrom
 returns c = refl
 
-pub load-spec : {M : Type 1} → statement M
-load-spec =
+pub read-registers-spec : {M : Type 1} → statement M
+read-registers-spec =
     tie.close
     (tie.spec
     element-copy-out-t4

@@ -1,12 +1,12 @@
--- `access::write_admitted` meets its contract. Assumes nothing.
+-- `writing::write_admitted` meets its contract. Assumes nothing.
 use mathlib.Core.Path.{sym, _∙_}
 use Rattle.cache.proofs.Hits.{found-few, of-hit}
 use Rattle.storage.proofs.Admitting.{room-passed}
 use Rattle.storage.proofs.Storing.{write-refused}
 use Rattle.storage.proofs.Editing.{asks-edit, edit-done}
 use borrow.Author.Needs.{needs}
-use Rattle.access.proofs.write_admitted.Statement.{statement}
-use Rattle.access.proofs.write_admitted.Tie as tie
+use Rattle.writing.proofs.write_admitted.Statement.{statement}
+use Rattle.writing.proofs.write_admitted.Tie as tie
 
 -- the start, from the place of the tests
 abbrev start-at : tie.After-write-refusal → tie.Start
@@ -22,8 +22,8 @@ returns c =
 of-frame-requires : tie.Need-of-frame-requires
 of-frame-requires c κs = let f : tie.After-find = search in found-few _ _ _ _ (f .find .ensures)
 
-edit-line-requires : tie.Need-edit-line-requires
-edit-line-requires c κs =
+write-again-requires : tie.Need-write-again-requires
+write-again-requires c κs =
     let n : tie.After-entry = search in
     let o : tie.After-of-frame = n .before .before in
     let f : tie.After-find = o .before .before in
@@ -40,8 +40,8 @@ returns-2 c =
     let i : tie.Else1 = f .before .before .before in
     let w = i .before in
     let s = start-at w in
-    let d : tie.After-edit-line = search in
-    let left = d .edit-line .ensures in
+    let d : tie.After-write-again = search in
+    let left = d .write-again .ensures in
     edit-done _ _ _ _ _ (s .pre) (w .write-refusal .ensures) (i .if1 .left) _ (f .find .ensures) _ (o .of-frame .ensures) _ (n .entry .given .1) _ _ _ _ (left .0) (left .1 .0) (left .1 .1 .0) (left .1 .1 .1)
 
 pub write-admitted-spec : {M : Type 1} → statement M
@@ -53,7 +53,7 @@ write-admitted-spec =
     (λ c κs. search needs)
     of-frame-requires
     (λ c. search needs)
-    edit-line-requires
+    write-again-requires
     (λ c. search needs)
     (λ c κs. search needs)
     (λ c. search needs)

@@ -1,10 +1,10 @@
--- `access::write_line` meets its contract. Assumes nothing.
+-- `writing::write_newly` meets its contract. Assumes nothing.
 use mathlib.Core.Path.{refl, sym}
 use Rattle.storage.proofs.Admitting.{room-passed, room-turn}
 use Rattle.storage.proofs.Storing.{write-page-asks, asks-write, write-full, write-done}
 use borrow.Author.Needs.{needs}
-use Rattle.access.proofs.write_line.Statement.{statement}
-use Rattle.access.proofs.write_line.Tie as tie
+use Rattle.writing.proofs.write_newly.Statement.{statement}
+use Rattle.writing.proofs.write_newly.Tie as tie
 
 -- the start, from the place of the live frames
 abbrev start-at : tie.After-live → tie.Start
@@ -45,8 +45,8 @@ returns-2 c =
     let r : tie.After-ring = search in
     write-full _ _ _ _ _ (s .pre .0) (sym (s .pre .1)) refl _ (r .ring .ensures) _ (p .page-for .ensures .0) (c .enum-told .given .1)
 
-pub write-line-spec : {M : Type 1} → statement M
-write-line-spec =
+pub write-newly-spec : {M : Type 1} → statement M
+write-newly-spec =
     tie.close
     (tie.spec
     live-requires

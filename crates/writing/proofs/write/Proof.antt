@@ -1,9 +1,9 @@
--- `access::write` meets its contract. Assumes nothing.
+-- `writing::write` meets its contract. Assumes nothing.
 use Rattle.storage.proofs.Chains.{measured-none}
 use Rattle.storage.proofs.Storing.{write-turned}
 use borrow.Author.Needs.{needs}
-use Rattle.access.proofs.write.Statement.{statement}
-use Rattle.access.proofs.write.Tie as tie
+use Rattle.writing.proofs.write.Statement.{statement}
+use Rattle.writing.proofs.write.Tie as tie
 
 returns : tie.Need-returns
 returns c = write-turned _ _ _ _ _ _ (c .before .before .measure .ensures) (c .before .admit .ensures .0) (c .if1 .taken)

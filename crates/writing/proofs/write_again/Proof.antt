@@ -1,9 +1,9 @@
--- `access::edit_line` meets its contract. Assumes nothing.
+-- `writing::write_again` meets its contract. Assumes nothing.
 use Rattle.storage.proofs.Editing.{edit-told}
 use native.Mathlib.Omega.{arith}
 use borrow.Author.Needs.{needs}
-use Rattle.access.proofs.edit_line.Statement.{statement}
-use Rattle.access.proofs.edit_line.Tie as tie
+use Rattle.writing.proofs.write_again.Statement.{statement}
+use Rattle.writing.proofs.write_again.Tie as tie
 
 page-at-requires : tie.Need-page-at-requires
 page-at-requires c κs = let s : tie.Start = search in let h : tie.After-shape = search in rw (h .shape .ensures) (s .pre .named)
@@ -26,8 +26,8 @@ returns c =
     let t = edit-told (s .args .registers) _ _ _ _ _ (s .args .table .now) _ _ (h .shape .ensures) _ (n .page-at .ensures) _ (m .min .ensures) _ _ (p .edit-page-line .ensures) (g .renew .ensures) in
     (b .edit-at .ensures, (c .recall .ensures, (t .0, t .1)))
 
-pub edit-line-spec : {M : Type 1} → statement M
-edit-line-spec =
+pub write-again-spec : {M : Type 1} → statement M
+write-again-spec =
     tie.close
     (tie.spec
     (λ c κs. search needs)

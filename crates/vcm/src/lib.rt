@@ -4,7 +4,6 @@
 // state by value. No struct that crosses has a bool or an enum, so that every byte that a caller may hand over is a value.
 use store::Counted;
 use store::Need;
-use store::Origin;
 use store::Outcome;
 use store::State;
 ghost use mathlib.Core.Path.{_≡_};
@@ -14,17 +13,9 @@ ghost use Rattle.rules.specs.Call.Look.{LINE-REFUSAL, COUNTS};
 ghost use Rattle.cache.specs.Entries.{cacheOf};
 ghost use Rattle.storage.specs.Storage.{memoryOf, stateOf, storageOf};
 ghost use Rattle.storage.specs.Steps.{freshState};
-ghost use Rattle.store.specs.Shown.{shownOrigin};
 ghost use Rattle.storage.specs.Contracts.{Resets, Writes, Looks, MarksIn, RollsBackIn, AdvancesIn};
 ghost use Rattle.border.specs.Lent.{registersFrom};
-ghost use Rattle.vcm.specs.Numbers.{originNumber, marksBack, ReadsAs, copied, CopiesLine, ChecksAs};
-
-// An origin as a number. Marks back are 0 but for a frame's.
-pub const ARCHIVE: u32 = 0;
-
-pub const FRAME: u32 = 1;
-
-pub const CACHE: u32 = 2;
+ghost use Rattle.vcm.specs.Numbers.{ReadsAs, CopiesLine, ChecksAs};
 
 // The value of a read and its origin, with the refusal or 0.
 #[repr(C)]
@@ -56,39 +47,6 @@ pub extern "C" fn vcm_blank() -> State
     ensures { λ r. ⌜ r ≡ freshState 0 0 0 ⌝ }
 {
     store::blank()
-}
-
-// The number of an origin.
-fn origin_number(found: Origin) -> u32
-    ensures { λ r. ⌜ r ≡ originNumber (shownOrigin found) ⌝ }
-{
-    match found {
-        Origin::Cache => CACHE,
-        Origin::Frame(back) => FRAME,
-        Origin::Archive => ARCHIVE,
-    }
-}
-
-// The marks back of an origin.
-fn marks_back(found: Origin) -> u32
-    ensures { λ r. ⌜ r ≡ marksBack (shownOrigin found) ⌝ }
-{
-    match found {
-        Origin::Cache => 0,
-        Origin::Frame(back) => back,
-        Origin::Archive => 0,
-    }
-}
-
-// Copies a lent line over the caller's bytes, which stay where the part has not 16.
-fn copy_line(part: &[u8], bytes: &mut [u8; 16])
-    ensures { λ _. ⌜ now (bytes .exit) ≡ copied (now (part .entry)) (now (bytes .entry)) ⌝ }
-{
-    if part.len() != 16 {
-        return;
-    }
-    let line = lists::read_line(part, 0);
-    *bytes = line;
 }
 
 // RESET: writes archive, groups and history.
@@ -212,8 +170,8 @@ pub extern "C" fn vcm_raw_read(
     Reading {
         refusal: r.refusal,
         value: r.value,
-        origin: origin_number(found),
-        marks_back: marks_back(found),
+        origin: border::origin_number(found),
+        marks_back: border::marks_back(found),
     }
 }
 
@@ -239,7 +197,7 @@ pub extern "C" fn vcm_raw_line<'a>(
         return refusal;
     }
     let part = access::line_admitted(loaded, archive, pool, groups, table, owners, history, line);
-    copy_line(part, bytes);
+    border::copy_line(part, bytes);
     0
 }
 

@@ -5,7 +5,7 @@ use native.Mathlib.Omega.{arith}
 use Rattle.storage.proofs.Chains.{measured-none}
 use Rattle.storage.proofs.Looking.{companion}
 use Rattle.storage.proofs.Using.{line-refused}
-use Rattle.vcm.proofs.Numbers.{copied-none}
+use Rattle.border.proofs.Answers.{copied-none}
 use borrow.Author.Needs.{needs}
 use Rattle.vcm.proofs.vcm_raw_line.Statement.{statement}
 use Rattle.vcm.proofs.vcm_raw_line.Tie as tie

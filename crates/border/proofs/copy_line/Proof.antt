@@ -1,9 +1,9 @@
--- `vcm::copy_line` meets its contract. Assumes nothing.
+-- `border::copy_line` meets its contract. Assumes nothing.
 use mathlib.Core.Path.{_∙_}
 use borrow.Author.Needs.{needs}
-use Rattle.vcm.proofs.Numbers.{copied-whole, copied-none}
-use Rattle.vcm.proofs.copy_line.Statement.{statement}
-use Rattle.vcm.proofs.copy_line.Tie as tie
+use Rattle.border.proofs.Answers.{copied-whole, copied-none}
+use Rattle.border.proofs.copy_line.Statement.{statement}
+use Rattle.border.proofs.copy_line.Tie as tie
 
 returns : tie.Need-returns
 returns c = copied-none _ _ (c .if1 .taken)

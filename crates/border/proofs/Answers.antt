@@ -1,4 +1,4 @@
--- What the exported calls make of an answer. Assumes nothing.
+-- What is copied of a part. Assumes nothing.
 use mathlib.Core.Path.{_≡_, sym, _∙_, ap}
 use mathlib.Core.Logic.{_≢_}
 use mathlib.Core.Bool.{Bool, cond}
@@ -9,7 +9,7 @@ use borrow.Author.Tests.{eq-eqb, ne-eqb}
 use lib.ListN.{length}
 use lib.Seq.{take-all}
 use Rattle.lists.specs.Lines.{lineAt}
-use Rattle.vcm.specs.Numbers.{copied}
+use Rattle.border.specs.Answers.{copied}
 
 -- A part of 16 bytes is one line, whole.
 pub copied-whole : (part bytes : List ℕ) → length part ≡ 16 → lineAt part 0 ≡ copied part bytes

@@ -1,10 +1,10 @@
--- `vcm::marks_back` meets its contract. Assumes nothing.
+-- `border::marks_back` meets its contract. Assumes nothing.
 use mathlib.Core.Path.{refl}
 use borrow.Author.Needs.{needs}
 use Rattle.versions.specs.Newest.{originOf}
-use Rattle.vcm.specs.Numbers.{marksBack}
-use Rattle.vcm.proofs.marks_back.Statement.{statement}
-use Rattle.vcm.proofs.marks_back.Tie as tie
+use Rattle.border.specs.Answers.{marksBack}
+use Rattle.border.proofs.marks_back.Statement.{statement}
+use Rattle.border.proofs.marks_back.Tie as tie
 
 enum-told : tie.Need-enum-told
 enum-told c = search needs

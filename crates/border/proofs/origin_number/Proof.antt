@@ -1,10 +1,10 @@
--- `vcm::origin_number` meets its contract. Assumes nothing.
+-- `border::origin_number` meets its contract. Assumes nothing.
 use mathlib.Core.Path.{refl}
 use borrow.Author.Needs.{needs}
 use Rattle.versions.specs.Newest.{originOf}
-use Rattle.vcm.specs.Numbers.{originNumber}
-use Rattle.vcm.proofs.origin_number.Statement.{statement}
-use Rattle.vcm.proofs.origin_number.Tie as tie
+use Rattle.border.specs.Answers.{originNumber}
+use Rattle.border.proofs.origin_number.Statement.{statement}
+use Rattle.border.proofs.origin_number.Tie as tie
 
 enum-told : tie.Need-enum-told
 enum-told c = search needs

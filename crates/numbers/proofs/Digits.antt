@@ -3,9 +3,10 @@
 use mathlib.Core.Path.{_≡_, refl, sym, _∙_, ap, ap₂, subst}
 use mathlib.Core.Bool.{Bool, true, false, _&&_}
 use Prim.Native.Nat.{ℕ, suc, _+_, _-_, _*_, _/_, _%_, _^_, _≤_, _<_}
-use native.Mathlib.Nat.{mod-lt, div-eq-of-lt, div-mul-le-self, zero-div, zero-mod, mul-div-cancel, mul-mod-left, lt-of-le-of-lt, add-mul, mul-assoc, mul-comm, one-mul, div-eq-of-lt-le, pow-succ', sub-add-cancel, div-lt-iff-lt-mul, add-assoc, mod-le, div-add-mod'}
+use native.Mathlib.Nat.{mod-lt, div-eq-of-lt, div-mul-le-self, zero-div, zero-mod, mul-div-cancel, mul-mod-left, lt-of-le-of-lt, add-mul, mul-assoc, mul-comm, one-mul, div-eq-of-lt-le, pow-succ', sub-add-cancel, div-lt-iff-lt-mul, add-assoc, mod-le, mod-eq-of-lt, div-add-mod', add-zero, add-comm}
 use native.Mathlib.Decide.{decLt, decLe}
 use native.Mathlib.Omega.{arith}
+use lib.Bits.{bitAnd, and-zero-r, and-comm, and-le-r, and-mask, and-block, and-shr, and-mod}
 use lib.Arith.{digits-div, digits-mod, digits-lt}
 use lib.Dec.{eqb, leb}
 use lib.Pow.{pow-pos, pow-mono, pow-add, field, mod-mod-pow, shr-shr, shl-exact}
@@ -69,6 +70,38 @@ module _ (x lo hi : ℕ) where
   unfolding rangeOf
   range-in q a b =
       digit-from (rangeOf x lo hi) (x % 2 ^ hi) lo q (mul-div-cancel (x % 2 ^ hi / 2 ^ lo) (pow-pos lo)) a ∙ digit-mod x hi q b
+
+-- AND: a range of ones is a mask,
+ones-mod : (hi : ℕ) → hi ≤ 16 → 65535 % 2 ^ hi ≡ 2 ^ hi - 1
+ones-mod hi h =
+    sym (and-mask 65535 hi)
+    ∙ (and-comm 65535 (2 ^ hi - 1)
+    ∙ (and-mask (2 ^ hi - 1) 16 ∙ mod-eq-of-lt (omega (arith, pow-pos hi, pow-mono {i = hi} {j = 16} h))))
+
+and-shifted-in : (x m k : ℕ) → bitAnd x (m * 2 ^ k) ≡ bitAnd (x / 2 ^ k) m * 2 ^ k
+and-shifted-in x m k =
+    ap₂ bitAnd (sym (div-add-mod' x (2 ^ k))) (sym (add-zero (m * 2 ^ k)))
+    ∙ (and-block k (x / 2 ^ k) m (x % 2 ^ k) 0 (mod-lt x (pow-pos k)) (pow-pos k)
+    ∙ (ap (λ (n : ℕ). bitAnd (x / 2 ^ k) m * 2 ^ k + n) (and-zero-r (x % 2 ^ k)) ∙ add-zero (bitAnd (x / 2 ^ k) m * 2 ^ k)))
+
+pub range-and : (x lo hi : ℕ) → hi ≤ 16 → bitAnd x (rangeOf 65535 lo hi) ≡ rangeOf x lo hi
+unfolding rangeOf
+range-and x lo hi h =
+    and-shifted-in x (65535 % 2 ^ hi / 2 ^ lo) lo
+    ∙ ap (λ (n : ℕ). n * 2 ^ lo)
+    (sym (and-shr x (65535 % 2 ^ hi) lo) ∙ ap (λ (n : ℕ). n / 2 ^ lo) (ap (bitAnd x) (ones-mod hi h) ∙ and-mask x hi))
+
+-- and of two masks, one below a place and one from it on, each takes its part.
+pub and-parts : (x low m k : ℕ) → low < 2 ^ k → bitAnd x (low + m * 2 ^ k) ≡ bitAnd x low + bitAnd x (m * 2 ^ k)
+and-parts x low m k h =
+    ap₂ bitAnd (sym (div-add-mod' x (2 ^ k))) (add-comm low (m * 2 ^ k))
+    ∙ (and-block k (x / 2 ^ k) m (x % 2 ^ k) low (mod-lt x (pow-pos k)) h
+    ∙ (ap₂ (λ (a b : ℕ). a + b) (sym (and-shifted-in x m k)) below ∙ add-comm (bitAnd x (m * 2 ^ k)) (bitAnd x low)))
+  where
+    below : bitAnd (x % 2 ^ k) low ≡ bitAnd x low
+    below =
+        ap (bitAnd (x % 2 ^ k)) (sym (mod-eq-of-lt h))
+        ∙ (sym (and-mod x low k) ∙ mod-eq-of-lt (lt-of-le-of-lt (and-le-r x low) h))
 
 -- SET
 set-law : (a b c r : ℕ) → c ≡ b * 2 → a * c + b + r ≡ (a * 2 + 1) * b + r

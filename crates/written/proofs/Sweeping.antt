@@ -4,32 +4,61 @@ use mathlib.Core.Bool.{Bool, cond}
 use mathlib.Core.List.{List}
 use Prim.Native.Nat.{ℕ, _+_, _*_, _/_, _%_, _-_, _≤_, _<_, min}
 use native.Mathlib.Nat.{add-zero, mul-le-mul, mul-le-mul-right, suc-mul, zero-mul}
+use native.Mathlib.Decide.{decLt}
 use native.Mathlib.Numerals.{add-one}
 use native.Mathlib.Omega.{arith}
 use borrow.Author.Tests.{eq-eqb, ne-eqb, lt-ltb, le-ltb}
 use lib.Arith.{digits-div}
-use lib.ListN.{length, set}
+use lib.Bits.{bitAnd}
+use lib.ListN.{length, getD, set, length-set}
+use lib.Seq.{getD-set-same, getD-set-other}
 use Rattle.lists.specs.Lists.{rewrite, rewriteFrom}
-use Rattle.written.specs.Bits.{Written, writtenOf, AsksWritten, Near, placeOf, boundOf, firstIndex, cutOf, windowOf}
-use Rattle.written.specs.Steps.{maskedOf, Entered, swept, lowerBound, nextTag, RolledBack}
+use Rattle.written.specs.Bits.{Written, writtenOf, AsksWritten, Near, placeOf, tagOf, boundOf, firstIndex, cutOf, windowOf}
+use Rattle.written.specs.Steps.{maskedOf, Masks, Entered, swept, lowerBound, nextTag, RolledBack}
 use Rattle.lists.proofs.Lists.{Rewritten, rewrite-start, rewrite-end, rewrite-behind}
-use Rattle.written.proofs.Windows.{cut-none}
+use Rattle.written.proofs.Windows.{cut-and}
 
 -- the groups are few
 pub count-few : (lines frames : ℕ) → lines ≤ 4096 → frames ≤ 4096 → frames / 16 * lines ≤ 1048576
 count-few lines frames a b = mul-le-mul {n₁ = frames / 16} {m₁ = lines} {n₂ = 256} {m₂ = 4096} (omega arith) a
 
--- what the sweep stores for a group without bits, and for any
-pub masked-bare : (g s u : ℕ) (history : List ℕ) → (u ≤ 16) × (256 ≤ length history) → g % 65536 ≡ 0 → 0 ≡ cutOf g s u 0 (boundOf history g)
-masked-bare g s u history few e = sym (cut-none g s u 0 (boundOf history g) (few .0) e)
+-- The masks of the first n tags, as the loop has them, at its start, at each turn and at its end.
+module _ (s u : ℕ) (history : List ℕ) where
+  pub record MasksTo (n : ℕ) (masks : List ℕ) : Type 0 where
+    pub few : n ≤ 256
+    pub long : length masks ≡ 256
+    pub done : (t : ℕ) → t < n → getD masks t 0 ≡ cutOf 65535 s u 0 (getD history t 0)
 
-pub masked-cut : (g s u bound end r : ℕ) → (bound ≡ end) × (bound < 65536) → (r ≡ cutOf g s u 0 bound) × (r < 65536) → r ≡ cutOf g s u 0 end
-masked-cut g s u bound end r eb e = e .0 ∙ ap (cutOf g s u 0) (eb .0)
+  pub masks-start : (masks : List ℕ) → length masks ≡ 256 → MasksTo 0 masks
+  masks-start masks long = record { few = omega arith; long = long; done = λ t b. absurd (omega arith) }
 
-pub masked-told : (frames omf area g s u r : ℕ) (history : List ℕ) → (s ≡ firstIndex frames omf area) × (s < frames) → u ≡ min 16 (frames - s)
-    → r ≡ cutOf g s u 0 (boundOf history g) → r ≡ maskedOf frames omf area history g
+  pub masks-next : (n : ℕ) (masks : List ℕ) (bound r : ℕ) → MasksTo n masks → n < 256 → bound ≡ getD history n 0 → (r ≡ cutOf 65535 s u 0 bound) × (r < 65536)
+      → MasksTo (n + 1) (set masks n r)
+  masks-next n masks bound r h b eb er =
+      record {
+        few = omega arith;
+        long = length-set masks n r ∙ h .long;
+        done = λ t c. at t c (decLt t n);
+      }
+    where
+      at : (t : ℕ) → t < n + 1 → Dec (t < n) → getD (set masks n r) t 0 ≡ cutOf 65535 s u 0 (getD history t 0)
+      at t c (yes d) = getD-set-other masks n t r 0 (λ e. omega (arith, d, e)) ∙ h .done t d
+      at t c (no d) =
+          let e : t ≡ n = omega (arith, c, d) in
+          rw e (getD-set-same masks n r 0 (omega (arith, b, h .long)) ∙ (er .0 ∙ ap (cutOf 65535 s u 0) eb))
+
+  pub masks-end : (n : ℕ) (masks : List ℕ) → MasksTo n masks → 256 ≤ n → Masks s u history masks
+  masks-end n masks h b t c = h .done t (omega (arith, b, c))
+
+-- What the sweep of an area stores for a group.
+pub masked-told : (frames omf area s u : ℕ) (history masks : List ℕ) → (s ≡ firstIndex frames omf area) × (s < frames) → u ≡ min 16 (frames - s)
+    → Masks s u history masks → (g : ℕ) → bitAnd g (getD masks (tagOf g) 0) ≡ maskedOf frames omf area history g
 unfolding maskedOf windowOf
-masked-told frames omf area g s u r history es eu er = cc
+masked-told frames omf area s u history masks es eu h g =
+    let e : bitAnd g (getD masks (tagOf g) 0) ≡ cutOf g s u 0 (boundOf history g) =
+    ap (bitAnd g) (h (tagOf g) (omega arith)) ∙ cut-and g s u (boundOf history g) (omega (arith, eu))
+    in
+    cc
 
 -- The groups of a working area lie in the lent list,
 pub area-near : (w : Written) (area line now : ℕ) → AsksWritten w → area < w .frames / 16 → now ≡ length (w .groups) → line < w .lines

@@ -9,14 +9,15 @@ use borrow.Author.Tests.{le-leb, lt-leb, lt-ltb, le-ltb}
 use lib.Dec.{leb, ltb}
 use native.Mathlib.Omega.{arith}
 use lib.Arith.{digits-div, digits-mod, digits-lt}
-use lib.Pow.{pow-pos, pow-mono, pow-add, mod-mod-pow}
+use lib.Bits.{bitAnd}
+use lib.Pow.{pow-pos, pow-mono, pow-add}
 use mir.Syntax.{w32}
 use mir.Val.{Fits}
 use Rattle.rules.proofs.Circle.{index-reaches}
 use Rattle.frames.specs.Circle.{indexOf}
 use Rattle.numbers.specs.Digits.{digit, bit, rangeOf}
 use Rattle.frames.proofs.Circle.{index-below}
-use Rattle.numbers.proofs.Digits.{digit-below, digit-from, digit-bit, bit-none, range-le, range-lt, range-under, range-over, range-in}
+use Rattle.numbers.proofs.Digits.{digit-below, digit-from, digit-bit, bit-none, range-lt, range-under, range-over, range-in, range-and, and-parts}
 use Rattle.written.specs.Bits.{firstIndex, beforeWrap, afterWrap, cutOf, windowOf}
 
 -- two numbers with their digits on either side of a place add up digit by digit
@@ -192,19 +193,22 @@ module _ (g s u from end : ℕ) where
   pub cut-fits : (a b : ℕ) → u ≤ 16 → a ≡ beforeWrap g s u from end → b ≡ afterWrap g u from end → Fits w32 (a + b)
   cut-fits a b few ea eb = record { fits = omega (arith, cut-told a b few ea eb .1) }
 
-  -- a group without bits has none in a window
-  pub cut-none : u ≤ 16 → g % 65536 ≡ 0 → cutOf g s u from end ≡ 0
-  unfolding cutOf beforeWrap afterWrap
-  cut-none few e =
-      ap₂ (λ (a b : ℕ). a + b) (none (min u (from - s)) (min u (end - s)) (omega arith)) (none (min 16 (from + u)) (min 16 (end + u)) (omega arith))
-    where
-      none : (lo hi : ℕ) → hi ≤ 16 → rangeOf g lo hi ≡ 0
-      none lo hi h =
-          let i : 16 - hi + hi ≡ 16 = omega arith in
-          let rest : g % 2 ^ hi ≡ 0 =
-          sym (mod-mod-pow g (16 - hi) hi) ∙ (ap (λ (n : ℕ). g % 2 ^ n % 2 ^ hi) i ∙ (ap (λ (n : ℕ). n % 2 ^ hi) e ∙ native.Mathlib.Nat.zero-mod (2 ^ hi)))
-          in
-          omega (arith, range-le g lo hi, rest)
+-- Masked by the window of a group with every bit, a group is its own window.
+module _ (g s u end : ℕ) (few : u ≤ 16) where
+  before-and : bitAnd g (beforeWrap 65535 s u 0 end) ≡ beforeWrap g s u 0 end
+  unfolding beforeWrap
+  before-and = range-and g (min u (0 - s)) (min u (end - s)) (omega arith)
+
+  after-and : bitAnd g (afterWrap 65535 u 0 end) ≡ afterWrap g u 0 end
+  unfolding afterWrap
+  after-and = range-and g (min 16 (0 + u)) (min 16 (end + u)) (omega arith)
+
+  pub cut-and : bitAnd g (cutOf 65535 s u 0 end) ≡ cutOf g s u 0 end
+  unfolding cutOf
+  cut-and =
+      ap (bitAnd g) (whole-is 65535 s u 0 end few)
+      ∙ (and-parts g (beforeWrap 65535 s u 0 end) (high 65535 s u 0 end few .0) u (part-small 65535 s u 0 end few)
+      ∙ ap₂ (λ (a b : ℕ). a + b) before-and (ap (bitAnd g) (sym (high 65535 s u 0 end few .1)) ∙ after-and))
 
 module _ (n omf area g s u : ℕ) (es : (s ≡ firstIndex n omf area) × (s < n)) (eu : u ≡ min 16 (n - s)) where
   pub window-told : (from end r : ℕ) → (r ≡ cutOf g s u from end) × (r < 65536) → r ≡ windowOf n omf area g from end

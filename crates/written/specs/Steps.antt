@@ -9,7 +9,7 @@ use Rattle.rules.specs.Seen.{any, count}
 use Rattle.frames.specs.Circle.{indexOf, frameAt}
 use Rattle.numbers.specs.Digits.{setAt, unsetAt}
 use Rattle.lists.specs.Lists.{rewrite, rewriteFrom}
-use Rattle.written.specs.Bits.{Written, writtenOf, placeOf, tagged, boundOf, windowOf}
+use Rattle.written.specs.Bits.{Written, writtenOf, placeOf, tagged, boundOf, cutOf, windowOf}
 
 -- The bits of a group that stand.
 unfoldable pub maskedOf : (frames omf area : ℕ) → (history : List ℕ) → ℕ → ℕ
@@ -64,6 +64,10 @@ lessDeep kept used history = count used (λ t. ltb kept (getD history t 0))
 -- and the one it stopped at, if any".
 abbrev pub stops : (kept used : ℕ) → List ℕ → Bool
 stops kept used history = any used (λ t. leb (getD history t 0) kept)
+
+-- For each tag the mask of the bits that stand with it, in an area whose first u frames have the indexes from s on, the others those from 0 on.
+abbrev pub Masks : (s u : ℕ) (history masks : List ℕ) → Type 0
+Masks s u history masks = (t : ℕ) → t < 256 → getD masks t 0 ≡ cutOf 65535 s u 0 (getD history t 0)
 
 -- "When its tags run out the store sweeps stale bits and starts afresh": every group of a working area with the bits that stand, and tag 0,
 abbrev pub sweptArea : Written → (area : ℕ) → List ℕ

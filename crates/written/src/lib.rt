@@ -8,7 +8,7 @@ ghost use lib.ListN.{length, getD};
 ghost use Rattle.rules.specs.Seen.{needs};
 ghost use Rattle.frames.specs.Circle.{Turn, indexOf};
 ghost use Rattle.written.specs.Bits.{writtenAt, AsksWritten, Asks, AsksBlock, AsksSet, Near, placeOf, boundOf, effective, newestFrom, newestRun, newestInArea, downOf, upOf, standsIn, runHas, blockHas, setIn, firstIndex, beforeWrap, afterWrap, cutOf, windowOf};
-ghost use Rattle.written.specs.Steps.{AsksWindow, AsksReset, regrouped, withWritten, renewed, Entered, settled, compared, sweptArea, swept, unsetIn, clearedBlock, lowerBound, lowered, RolledBack, blanked};
+ghost use Rattle.written.specs.Steps.{AsksWindow, AsksReset, regrouped, withWritten, renewed, Entered, settled, compared, Masks, sweptArea, swept, unsetIn, clearedBlock, lowerBound, lowered, RolledBack, blanked};
 
 // What places the lent lists: L, the circle of frames and OMF.
 pub struct Shape {
@@ -336,19 +336,23 @@ fn enter(history: &mut [u16], tag: u32, kept: u16) -> usize
     used
 }
 
-// The bits of a group that stand.
-fn masked(group: u32, history: &[u16], s: u32, u: u32) -> u32
+// For each tag the mask of the bits that stand with it, in a working area.
+fn masks_of(history: &[u16], s: u32, u: u32) -> [u32; 256]
     requires { ⌜ (u ≤ 16) × (256 ≤ length (now history)) ⌝ }
-    ensures { λ r. ⌜ r ≡ cutOf group s u 0 (boundOf (now (history .entry)) group) ⌝ }
+    ensures { λ r. ⌜ Masks s u (now (history .entry)) r ⌝ }
 {
-    if group % 65536 == 0 {
-        return 0;
+    let mut masks = [0u32; 256];
+    let mut t = 0;
+    while t < 256 {
+        let bound = numbers::widen_u16(history[t]);
+        masks[t] = cut(65535, s, u, 0, bound);
+        t = t + 1;
     }
-    let bound = bound_of(history, group);
-    cut(group, s, u, 0, bound)
+    masks
 }
 
-// Rewrites the groups of a working area with the bits that stand, and tag 0.
+// Rewrites the groups of a working area with the bits that stand, and tag 0: each is masked by its tag, without a branch, since which groups
+// have bits is not to be foreseen.
 fn sweep_area(groups: &mut [u32], history: &[u16], shape: Shape, area: u32)
     requires { ⌜ (AsksWritten (writtenAt shape (now groups) (now history))) × (area < shape .frames / 16) ⌝ }
     ensures { λ _. ⌜ now (groups .exit) ≡ sweptArea (writtenAt shape (now (groups .entry)) (now (history .entry))) area ⌝ }
@@ -356,10 +360,12 @@ fn sweep_area(groups: &mut [u32], history: &[u16], shape: Shape, area: u32)
     let lines = shape.lines;
     let s = first_index(shape, area);
     let u = numbers::min(16, shape.frames - s);
+    let masks = masks_of(history, s, u);
     let mut line = 0;
     while line < lines {
         let group = group_at(groups, shape, area, line);
-        put_group(groups, shape, area, line, masked(group, history, s, u));
+        let tag = (group / 65536 % 256) as usize;
+        put_group(groups, shape, area, line, group & masks[tag]);
         line = line + 1;
     }
 }

@@ -37,7 +37,12 @@ static void place(uint32_t room, uint32_t hour, uint32_t lesson) {
 static void show(uint32_t room, uint32_t hour) {
     vcm_reading r = vcm_read(&state, &memory, 2, 16 * room + 2 * hour);
     go_on(r.refusal);
-    printf("room %u at hour %u: lesson %u, ", (unsigned)room, (unsigned)hour, (unsigned)r.value);
+    printf("room %u at hour %u: ", (unsigned)room, (unsigned)hour);
+    if (r.origin == VCM_EMPTY) {
+        puts("no lesson is left in this room");
+        return;
+    }
+    printf("lesson %u, ", (unsigned)r.value);
     switch (r.origin) {
     case VCM_CACHE:
         puts("from the cache");

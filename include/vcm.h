@@ -31,7 +31,7 @@
 #include <stdint.h>
 
 /* CHANGELOG.md says what each version brought. */
-#define VCM_VERSION "0.4.0"
+#define VCM_VERSION "0.5.0"
 
 /* A program does not compile where a struct has another size than in libvcm.a. C99 has no assertion for that, but there too an array of
  * negative size is an error. */
@@ -144,20 +144,22 @@ typedef struct vcm_need {
     size_t pool;      /* 16: uint8_t,  128 x P */
     size_t groups;    /* 24: uint32_t, L x F / 4 */
     size_t table;     /* 32: uint16_t, L x F / 4 */
-    size_t owners;    /* 40: uint32_t, 4 x P */
+    size_t owners;    /* 40: uint32_t, 4 x (P + L): the pages' owners, behind them a flag for each line */
     size_t history;   /* 48: uint16_t, 512 */
 } vcm_need;
 
-/* Where a line read was found. */
+/* Where a line read was found. VCM_EMPTY: nowhere, no surviving write has touched the line, and the value is 0, in the cache or not; VCM_ARCHIVE
+ * is for lines that ADVANCE has collected. */
 #define VCM_ARCHIVE 0
 #define VCM_FRAME 1
 #define VCM_CACHE 2
+#define VCM_EMPTY 3
 
 /* READ's answer. Refused, the value is 0 and the origin VCM_ARCHIVE. Size 16, alignment 4. */
 typedef struct vcm_reading {
     uint32_t refusal;    /*  0 */
     uint32_t value;      /*  4 */
-    uint32_t origin;     /*  8: VCM_ARCHIVE, VCM_FRAME or VCM_CACHE */
+    uint32_t origin;     /*  8: VCM_ARCHIVE, VCM_FRAME, VCM_CACHE or VCM_EMPTY */
     uint32_t marks_back; /* 12: for VCM_FRAME how many marks back the frame lies, 0 for the current one; else 0 */
 } vcm_reading;
 
@@ -209,7 +211,7 @@ typedef struct vcm_memory {
 #define VCM_POOL_BYTES(P) ((size_t)128 * (size_t)(P))
 #define VCM_GROUPS_BYTES(L, F) ((size_t)(L) * (size_t)(F) / 4)
 #define VCM_TABLE_BYTES(L, F) ((size_t)(L) * (size_t)(F) / 4)
-#define VCM_OWNERS_BYTES(P) ((size_t)4 * (size_t)(P))
+#define VCM_OWNERS_BYTES(L, P) ((size_t)4 * ((size_t)(P) + (size_t)(L)))
 #define VCM_HISTORY_BYTES ((size_t)512)
 
 /* Whether the settings are within their limits: 1 or 0. */
@@ -221,7 +223,7 @@ typedef struct vcm_memory {
  * behind the other without a gap, in the order of vcm_memory. */
 #define VCM_BLOCK_BYTES(L, F, P)                                                                                       \
     (VCM_SETTINGS_FIT(L, F, P) ? VCM_ARCHIVE_BYTES(L) + VCM_POOL_BYTES(P) + VCM_GROUPS_BYTES(L, F) +                   \
-                                     VCM_TABLE_BYTES(L, F) + VCM_OWNERS_BYTES(P) + VCM_HISTORY_BYTES                   \
+                                     VCM_TABLE_BYTES(L, F) + VCM_OWNERS_BYTES(L, P) + VCM_HISTORY_BYTES                \
                                : (size_t)0)
 
 /* How a block is to be aligned. calloc's memory is, and an array of uint32_t; an array of char need not be. */
@@ -239,7 +241,7 @@ typedef struct vcm_memory {
         uint8_t pool[VCM_POOL_BYTES(P)];                                                                               \
         uint32_t groups[VCM_GROUPS_BYTES(L, F) / 4];                                                                   \
         uint16_t table[VCM_TABLE_BYTES(L, F) / 2];                                                                     \
-        uint32_t owners[VCM_OWNERS_BYTES(P) / 4];                                                                      \
+        uint32_t owners[VCM_OWNERS_BYTES(L, P) / 4];                                                                   \
         uint16_t history[VCM_SETTINGS_FIT(L, F, P) ? 256 : -1];                                                        \
     }
 
@@ -264,7 +266,7 @@ vcm_need vcm_sizes(uint32_t lines, uint32_t frames, uint32_t pages);
 /* The blank state, with L = 0. Every call but RESET refuses it with 5. */
 vcm_state vcm_blank(void);
 
-/* RESET: archive all zero, one live frame, no written bits, all pages free, cache empty. Refused: 4, 6. */
+/* RESET: archive all zero, one live frame, no written bits, all pages free, every line empty, cache empty. Refused: 4, 6. */
 VCM_MUST_CHECK static inline uint32_t vcm_reset(vcm_state *state, const vcm_memory *memory, uint32_t lines, uint32_t frames,
                                                 uint32_t pages);
 
@@ -334,7 +336,7 @@ typedef struct vcm_outcome {
 VCM_HAS_SIZE(vcm_outcome, 788);
 
 vcm_outcome vcm_raw_reset(vcm_state state, uint8_t *archive, size_t archive_len, const uint8_t *pool, size_t pool_len,
-                          uint32_t *groups, size_t groups_len, const uint16_t *table, size_t table_len, const uint32_t *owners,
+                          uint32_t *groups, size_t groups_len, const uint16_t *table, size_t table_len, uint32_t *owners,
                           size_t owners_len, uint16_t *history, size_t history_len, uint32_t lines, uint32_t frames,
                           uint32_t pages);
 uint32_t vcm_raw_write(uint32_t registers[8], uint32_t held[32], uint16_t origins[32], uint8_t valid[32], uint8_t bytes[512],
@@ -368,7 +370,7 @@ uint32_t vcm_raw_rollback(uint32_t registers[8], const uint16_t origins[32], uin
                           size_t history_len, uint32_t k);
 uint32_t vcm_raw_advance(uint32_t registers[8], uint16_t origins[32], uint8_t *archive, size_t archive_len, const uint8_t *pool,
                          size_t pool_len, uint32_t *groups, size_t groups_len, const uint16_t *table, size_t table_len,
-                         const uint32_t *owners, size_t owners_len, uint16_t *history, size_t history_len, uint32_t k);
+                         uint32_t *owners, size_t owners_len, uint16_t *history, size_t history_len, uint32_t k);
 vcm_counted vcm_raw_counts(const uint32_t registers[8], const uint8_t *archive, size_t archive_len, const uint8_t *pool,
                            size_t pool_len, const uint32_t *groups, size_t groups_len, const uint16_t *table, size_t table_len,
                            const uint32_t *owners, size_t owners_len, const uint16_t *history, size_t history_len);

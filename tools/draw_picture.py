@@ -28,6 +28,7 @@ class Model:
     def __init__(self, lines, frames, pages):
         self.count, self.pages = frames, pages
         self.archive = {line: 0 for line in range(lines)}
+        self.collected = set()  # the lines of which a version was folded into it
         self.live = [(0, {})]  # frames with their versions, the oldest first
         self.ring = []  # the places of the pages needed, those of older frames first
         self.first = 0  # the page of the first of them
@@ -46,7 +47,7 @@ class Model:
         for back, (_, versions) in enumerate(reversed(self.live)):
             if line in versions:
                 return ["ok", str(versions[line]), str(back)]
-        return ["ok", str(self.archive[line]), "a"]
+        return ["ok", str(self.archive[line]), "a" if line in self.collected else "e"]
 
     def mark(self):
         self.live.append(((self.live[-1][0] + 1) % self.count, {}))
@@ -60,6 +61,7 @@ class Model:
     def advance(self, k):
         for _, versions in self.live[:k]:
             self.archive.update(versions)
+            self.collected.update(versions)
         self.live = self.live[k:]
         self.first += sum(frame not in dict(self.live) for frame, _ in self.ring)
         self.keep_live()
@@ -169,6 +171,9 @@ def panel(number, x, y, records, words, model):
                 if line in live.get(frame, {}):
                     yield text(left[frame + 1] + COLUMN - 10, base, live[frame][line], 13, COLOURS[frame], "end", font_weight="bold")
             _, value, origin = model.read(line)
+            if origin == "e":
+                yield text(left[-1] + COLUMN / 2, base, "empty", 12, FAINT, "middle")
+                continue
             frame = None if origin == "a" else model.live[-1 - int(origin)][0]
             fill = ARCHIVE if frame is None else COLOURS[frame]
             yield text(left[-1] + COLUMN / 2, base, value, 13, fill, "middle", font_weight="bold")

@@ -67,7 +67,7 @@ class Frame:
 
 
 class Store:
-    """The live frames, oldest first. The base stands in every frame's copy, so it is not kept apart."""
+    """The live frames, oldest first. The base's bytes stand in every frame's copy and are not kept apart; which of its lines were ever written is."""
 
     def __init__(self, lines, frames, pages):
         if not (8 <= lines <= 4096 and lines % 8 == 0 and 16 <= frames <= 256 and frames % 16 == 0 and 1 <= pages <= 4096):
@@ -76,6 +76,7 @@ class Store:
             raise Refused(6)
         self.bytes, self.most_frames, self.most_pages = 16 * lines, frames, pages
         self.frames = [Frame(bytes(self.bytes))]
+        self.collected = set()  # the lines that the base has a write of
         self.cache = Cache()
 
     def line_at(self, width, address):
@@ -93,16 +94,18 @@ class Store:
         return sum(len(frame.blocks()) for frame in self.frames)
 
     def origin(self, line):
-        """How many marks back the line was last written, or a for the archive."""
+        """How many marks back the line was last written, or a for the archive, or e where no surviving write has touched it."""
         for back, frame in enumerate(reversed(self.frames)):
             if line in frame.lines:
                 return back
-        return "a"
+        return "a" if line in self.collected else "e"
 
     def read(self, width, address):
         line = self.line_at(width, address)
         value = int.from_bytes(self.frames[-1].memory[address : address + width], "big")
-        return value, "c" if self.cache.use(line) else self.origin(line)
+        origin = self.origin(line)
+        hit = self.cache.use(line)  # an empty line is loaded and used as any other
+        return value, "c" if hit and origin != "e" else origin
 
     def write(self, width, address, value):
         line = self.line_at(width, address)
@@ -136,6 +139,8 @@ class Store:
 
     def advance(self, k):
         self.check_marks(k)
+        for frame in self.frames[:k]:
+            self.collected |= frame.lines
         del self.frames[:k]
         return ()
 
@@ -187,19 +192,20 @@ def transcript(session):
     return b"".join(answers(io.BytesIO(session)))  # a BytesIO's lines end at byte 10 and nowhere else
 
 
-# Document 01's whole session and its cases at the edges, in its notation: a space is a tab, a slash parts lines.
+# Document 01's whole session, with `e` as request 2.3 has it, its cases at the edges, and request 2.3's, in document 01's notation: a space is a tab, a
+# slash parts lines.
 TESTS = [
     (
         "reset 8 16 2 / write 4 0 305419896 / mark / write 1 1 255 / read 4 0 / mark / write 1 2 1 / back 2 / read 4 0"
         " / read 1 16 / back 1 / read 2 1 / counts",
-        "ok / ok / ok / ok / ok 318723704 c / ok / no 13 / ok / ok 305419896 0 / ok 0 a / no 11 / no 8 / ok 1 1 / end 10 3",
+        "ok / ok / ok / ok / ok 318723704 c / ok / no 13 / ok / ok 305419896 0 / ok 0 e / no 11 / no 8 / ok 1 1 / end 10 3",
     ),
     ("", "end 0 0"),
     ("reset 8 16 1 / reset 7 16 1 / reset 12 16 1 / reset 4104 16 1", "ok / no 4 / no 4 / no 4 / end 1 3"),
     ("reset 512 16 1 / reset 520 16 1 / reset 4096 16 1", "ok / no 6 / no 6 / end 1 2"),
     ("reset 8 16 1 / reset 8 256 1 / reset 8 17 1 / reset 8 272 1", "ok / ok / no 4 / no 4 / end 2 2"),
     ("reset 8 16 1 / reset 8 16 0 / reset 8 16 4097 / reset 8 16 4096", "ok / no 4 / no 4 / no 6 / end 1 3"),
-    ("reset 8 16 1 / read 4 124 / read 4 128 / read 2 127 / read 3 1", "ok / ok 0 a / no 9 / no 8 / no 7 / end 2 3"),
+    ("reset 8 16 1 / read 4 124 / read 4 128 / read 2 127 / read 3 1", "ok / ok 0 e / no 9 / no 8 / no 7 / end 2 3"),
     ("reset 8 16 1 / write 1 0 255 / write 1 0 256 / write 1 128 256", "ok / ok / no 10 / no 9 / end 2 2"),
     ("reset 8 16 1" + " / mark" * 16 + " / advance 1 / mark", "ok" + " / ok" * 15 + " / no 12 / ok / ok / end 18 1"),
     ("reset 8 16 1 / mark / mark / mark / back 4 / back 0 / back 3", "ok / ok / ok / ok / no 11 / no 11 / ok / end 5 2"),
@@ -215,6 +221,16 @@ TESTS = [
         "reset 8 16 9 / write 1 0 5 / mark / back 1 / write 1 0 6 / mark / back 1 / read 1 0",
         "ok / ok / ok / ok / ok / ok / ok / ok 6 c / end 8 0",
     ),
+    (
+        "reset 40 16 2 / mark / write 1 0 5 / back 1 / read 1 0 / write 1 0 7 / mark / advance 1 / read 1 256 / read 1 512 / read 1 0 / mark"
+        " / write 1 0 8 / back 1 / read 1 0",
+        "ok / ok / ok / ok / ok 0 e / ok / ok / ok / ok 0 e / ok 0 e / ok 7 a / ok / ok / ok / ok 7 a / end 15 0",
+    ),
+    (
+        "reset 40 16 2 / read 1 0 / read 1 0 / write 1 256 1 / write 1 512 2 / read 1 0 / read 1 512 / read 1 256",
+        "ok / ok 0 e / ok 0 e / ok / ok / ok 0 e / ok 2 c / ok 1 0 / end 8 0",
+    ),
+    ("reset 8 16 2 / write 1 0 0 / read 1 1 / mark / advance 1 / read 1 0 / reset 8 16 2 / read 1 0", "ok / ok / ok 0 c / ok / ok / ok 0 c / ok / ok 0 e / end 8 0"),
 ]
 
 

@@ -277,15 +277,20 @@ def circle():
 
 def cache():
     """What the cache holds: lines 0, 16, 32 and 48 (addresses 0, 256, 512 and 768) share the set 0."""
+    # All four lines collected, so that a read tells whether the cache holds them, and none of them in the cache.
+    four = (
+        "write 1 0 9 / mark / advance 1 / write 1 256 9 / mark / advance 1 / write 1 512 9 / mark / advance 1 / write 1 768 9"
+        " / mark / advance 1 / mark / write 1 512 8 / back 1 / mark / write 1 768 8 / back 1"
+    )
     uses = text(
-        "reset 64 16 64 / read 1 0 / read 1 256 / read 1 0 / read 1 512 / read 1 0 / read 1 256 / read 1 512 / read 1 0"
+        f"reset 64 16 64 / {four} / read 1 0 / read 1 256 / read 1 0 / read 1 512 / read 1 0 / read 1 256 / read 1 512 / read 1 0"
         # A write loads, and counts as use.
         " / write 1 768 1 / read 1 768 / read 1 0 / write 1 769 2 / read 1 256 / read 1 768 / read 1 0 / write 1 256 3"
         " / read 2 768"
     )
     # A refused call neither loads nor counts; nor do mark, counts and advance.
-    untouched = text(
-        "reset 64 16 1 / read 1 0 / read 1 256 / write 1 0 1 / mark / write 1 256 1 / read 3 256 / write 1 256 256"
+    refused = text(
+        f"reset 64 16 1 / {four} / read 1 0 / read 1 256 / write 1 0 1 / mark / write 1 256 1 / read 3 256 / write 1 256 256"
         " / read 2 257 / counts"
         " / write 1 512 1 / read 1 512 / read 1 0 / read 1 256 / read 1 256 / read 1 0 / mark / counts / advance 2"
         " / read 1 512 / read 1 0 / read 1 256"
@@ -293,7 +298,7 @@ def cache():
     # Rollback: exactly the lines whose most recent version lay in a dropped frame. Then way 0 is taken if it is invalid, else way 1,
     # whatever was used last.
     dropped = text(
-        "reset 64 16 64 / write 1 0 1 / mark / read 1 256 / read 1 0 / back 1 / read 1 256 / read 1 0"
+        f"reset 64 16 64 / {four} / write 1 0 1 / mark / read 1 256 / read 1 0 / back 1 / read 1 256 / read 1 0"
         " / mark / write 1 256 2 / back 1 / read 1 0 / read 1 256"
         " / mark / write 1 256 3 / back 1 / read 1 512 / read 1 0 / read 1 512"
         " / mark / write 1 512 4 / write 1 0 5 / back 1 / read 1 768 / read 1 0 / read 1 256 / read 1 0 / read 1 768"
@@ -308,7 +313,30 @@ def cache():
         "mark / mark / write 1 16 4 / back 1 / read 1 0 / read 1 16 / read 1 32 / counts / back 1 / read 1 0 / read 1 16"
         " / read 1 32"
     )
-    return [(uses, 1), (untouched, 1), (dropped, 1), (collected, 1), (round_once, 14), (number_again, 1)]
+    return [(uses, 1), (refused, 1), (dropped, 1), (collected, 1), (round_once, 14), (number_again, 1)]
+
+
+def untouched():
+    """Lines that no surviving write has touched (request 2.3). Lines 0, 16 and 32 share the set 0 of the cache."""
+    # Such a line is loaded, counts as used, and pushes out others: line 32 pushes out line 16, since line 0 was used again; then line 16 pushes
+    # out line 0, line 0 line 32, and line 32 line 16.
+    uses = text("reset 64 16 8 / read 1 0 / write 1 256 1 / read 1 0 / read 1 512 / read 1 256 / read 1 0 / read 1 512 / read 1 256")
+    # A write that changes no byte touches the whole line, and taking back a line's only write makes it empty again.
+    back = text(
+        "write 1 16 0 / read 1 31 / mark / write 1 32 5 / read 1 32 / back 1 / read 1 32 / read 1 32 / mark / write 1 32 6 / mark"
+        " / write 1 32 7 / back 1 / read 1 32 / back 1 / read 1 32"
+    )
+    # Lines 1, 2 and 3 are collected with the oldest frame, with the next, and with both; line 8 with none. Their newest versions are taken back.
+    collected = text(
+        "reset 64 16 8 / write 1 16 1 / write 1 48 2 / mark / write 1 32 0 / write 1 48 3 / mark / mark / write 1 16 4 / write 1 32 5"
+        " / write 1 48 6 / write 1 128 8 / advance 2 / back 1 / read 1 16 / read 1 32 / read 1 48 / read 1 128 / read 1 33 / read 1 129"
+    )
+    # A reset forgets what was collected, of as many lines as it asks for.
+    forgotten = text(
+        "reset 512 16 2 / write 1 0 1 / write 1 8176 2 / mark / advance 1 / read 1 0 / read 1 8176 / reset 8 16 2 / read 1 0"
+        " / write 1 112 3 / mark / advance 1 / read 1 112 / reset 512 16 2 / read 1 0 / read 1 112 / read 1 8176 / counts"
+    )
+    return [(uses, 1), (back, 1), (collected, 1), (forgotten, 1)]
 
 
 class Draws:
@@ -390,6 +418,7 @@ SESSIONS = [
     ("pool", pool()),
     ("circle", circle()),
     ("cache", cache()),
+    ("untouched", untouched()),
     ("mixed", mixed()),
 ]
 

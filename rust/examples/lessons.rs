@@ -10,11 +10,12 @@ fn place(store: &mut Store, room: u32, hour: u32, lesson: u32) -> Result<(), Ref
 
 fn show(store: &mut Store, room: u32, hour: u32) -> Result<(), Refusal> {
     let reading = store.read(2, 16 * room + 2 * hour)?;
-    print!("room {room} at hour {hour}: lesson {}, ", reading.value);
+    print!("room {room} at hour {hour}: ");
     match reading.origin {
-        Origin::Cache => println!("from the cache"),
-        Origin::Frame(back) => println!("from {back} marks back"),
-        Origin::Archive => println!("from the archive"),
+        Origin::Cache => println!("lesson {}, from the cache", reading.value),
+        Origin::Frame(back) => println!("lesson {}, from {back} marks back", reading.value),
+        Origin::Archive => println!("lesson {}, from the archive", reading.value),
+        Origin::Empty => println!("no lesson is left in this room"),
     }
     Ok(())
 }

@@ -123,7 +123,7 @@ pub struct Need {
     pub groups: usize,
     /// The page of each frame and block of 8 lines, 2 bytes each.
     pub table: usize,
-    /// The owner of each page, 4 bytes each.
+    /// The owner of each page, and behind them a flag for each line, 4 bytes each.
     pub owners: usize,
     /// The rollback history, 2 bytes for each tag.
     pub history: usize,
@@ -147,7 +147,7 @@ pub struct Reading {
     pub refusal: u32,
     /// The value; refused, 0.
     pub value: u32,
-    /// 0 the archive, 1 a frame, 2 the cache; refused, 0.
+    /// 0 the archive, 1 a frame, 2 the cache, 3 empty: no surviving write has touched the line; refused, 0.
     pub origin: u32,
     /// How many marks back the frame lies; 0 where the origin is no frame.
     pub marks_back: u32,
@@ -299,7 +299,7 @@ extern "C" {
         groups_len: usize,
         table: *const u16,
         table_len: usize,
-        owners: *const u32,
+        owners: *mut u32,
         owners_len: usize,
         history: *mut u16,
         history_len: usize,
@@ -462,7 +462,7 @@ extern "C" {
         groups_len: usize,
         table: *const u16,
         table_len: usize,
-        owners: *const u32,
+        owners: *mut u32,
         owners_len: usize,
         history: *mut u16,
         history_len: usize,

@@ -16,7 +16,7 @@
 //! let need = SETTINGS.need()?; // in bytes
 //! let (mut archive, mut pool) = ([0u8; 128], [0u8; 256]);
 //! let (mut groups, mut table) = ([0u32; 8], [0u16; 16]);
-//! let (mut owners, mut history) = ([0u32; 2], [0u16; 256]);
+//! let (mut owners, mut history) = ([0u32; 2 + 8], [0u16; 256]);
 //! assert!(need.groups == 4 * groups.len() && need.table == 2 * table.len());
 //!
 //! let mut lent = Lent {
@@ -50,7 +50,7 @@ pub struct Lent<'a> {
     pub groups: &'a mut [u32],
     /// The page of each frame and block of 8 lines.
     pub table: &'a mut [u16],
-    /// The owner of each page.
+    /// The owner of each page, and behind them a flag for each line.
     pub owners: &'a mut [u32],
     /// The rollback history.
     pub history: &'a mut [u16],
@@ -67,7 +67,7 @@ pub struct Shown<'a> {
     pub groups: &'a [u32],
     /// The page of each frame and block of 8 lines.
     pub table: &'a [u16],
-    /// The owner of each page.
+    /// The owner of each page, and behind them a flag for each line.
     pub owners: &'a [u32],
     /// The rollback history.
     pub history: &'a [u16],
@@ -156,8 +156,8 @@ fn shown_registers(registers: &Registers) -> *const [u32; 8] {
     registers.cast()
 }
 
-/// RESET: an empty store with these settings, whatever the state and the memory held. It writes archive, groups and history, and gives
-/// the refusal or 0.
+/// RESET: an empty store with these settings, whatever the state and the memory held. It writes archive, groups, the
+/// collected lines' flags behind the owners, and history, and gives the refusal or 0.
 #[must_use]
 pub fn reset(state: &mut State, lent: &mut Lent, lines: u32, frames: u32, pages: u32) -> u32 {
     // SAFETY: any state and any memory is allowed; only exclusive slices are passed as `*mut`.
@@ -214,7 +214,7 @@ pub fn write(state: &mut State, lent: &mut Lent, width: u32, address: u32, value
 /// #     pool: &mut [0; 128],
 /// #     groups: &mut [0; 16],
 /// #     table: &mut [0; 32],
-/// #     owners: &mut [0; 1],
+/// #     owners: &mut [0; 17],
 /// #     history: &mut [0; 256],
 /// # };
 /// # let mut state = calls::blank();
@@ -338,8 +338,8 @@ pub fn rollback(state: &mut State, lent: &mut Lent, k: u32) -> u32 {
     }
 }
 
-/// ADVANCE: folds the `k` oldest frames into the archive. It writes the frames of the cache's entries, archive, groups and history, and
-/// gives the refusal or 0.
+/// ADVANCE: folds the `k` oldest frames into the archive. It writes the frames of the cache's entries, archive, groups,
+/// the collected lines' flags behind the owners, and history, and gives the refusal or 0.
 #[must_use]
 pub fn advance(state: &mut State, lent: &mut Lent, k: u32) -> u32 {
     let c = &mut state.cache;

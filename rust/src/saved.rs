@@ -6,7 +6,7 @@ use alloc::vec::Vec;
 use core::fmt;
 
 /// The number of the format that is written and read.
-const FORMAT: u32 = 1;
+const FORMAT: u32 = 2;
 
 /// The bytes of the number and the settings, which tell how many more there must be.
 const HEAD: usize = 16;
@@ -15,8 +15,8 @@ const HEAD: usize = 16;
 const FIXED: usize = 4 + 784;
 
 impl Store {
-    /// The format that [`Store::save`] writes and [`Store::load`] reads: 1. A later version that adds or changes anything in it raises the
-    /// number.
+    /// The format that [`Store::save`] writes and [`Store::load`] reads: 2, which came with the collected lines' flags behind the owners. A later
+    /// version that adds or changes anything in it raises the number.
     pub const FORMAT: u32 = FORMAT;
 
     /// The whole store as bytes: its settings, its marks, every version that can be gone back to, and the cache, so that [`Store::load`]
@@ -233,7 +233,7 @@ impl<'a> Bytes<'a> {
 ///
 /// let error = Store::load(&[9, 0, 0, 0]).unwrap_err();
 /// assert_eq!(error, LoadError::Format(9));
-/// assert_eq!(error.to_string(), "the bytes are of format 9: this version reads format 1 only");
+/// assert_eq!(error.to_string(), "the bytes are of format 9: this version reads format 2 only");
 /// ```
 #[derive(Clone, Copy, PartialEq, Eq, Hash)]
 #[non_exhaustive]

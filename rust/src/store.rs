@@ -154,7 +154,8 @@ impl Store {
         ))
     }
 
-    /// READ: the value of `width` bytes at an address and where it was found. The cache has the line afterwards.
+    /// READ: the value of `width` bytes at an address and where it was found, or that no surviving write has touched the line. The cache has
+    /// the line afterwards.
     ///
     /// # Errors
     /// [`Refusal::Width`], [`Refusal::Alignment`] or [`Refusal::Range`].
@@ -166,6 +167,7 @@ impl Store {
             0 => Origin::Archive,
             1 => Origin::Frame(reading.marks_back),
             2 => Origin::Cache,
+            3 => Origin::Empty,
             other => return Err(Refusal::Unknown(other)),
         };
         Ok(Reading {
@@ -261,7 +263,8 @@ impl Store {
         Ok(self.read(2, address)?.value as u16)
     }
 
-    /// READ of 4 bytes, most significant byte first. [`Store::read`] also tells where the value was found.
+    /// READ of 4 bytes, most significant byte first. [`Store::read`] also tells where the value was found and
+    /// whether its line is empty.
     ///
     /// ```
     /// # use vcm::{Refusal, Settings, Store};

@@ -93,9 +93,10 @@ fn the_format_is_fixed() {
     let groups = pool + 384;
     let table = groups + 192;
     let owners = table + 192;
-    let history = owners + 12;
-    let places: [(usize, &[u8]); 22] = [
-        (0, &[1, 0, 0, 0]),
+    let flags = owners + 12;
+    let history = flags + 4 * 24;
+    let places: [(usize, &[u8]); 23] = [
+        (0, &[2, 0, 0, 0]),
         (4, &[24, 0, 0, 0, 32, 0, 0, 0, 3, 0, 0, 0]),
         // CMF, OMF, tag, first, used
         (16, &[2, 0, 0, 0, 1, 0, 0, 0, 1, 0, 0, 0]),
@@ -120,6 +121,8 @@ fn the_format_is_fixed() {
         (table + 2 * 3, &[1, 0]),
         (table + 2 * 7, &[2, 0]),
         (owners + 4, &[0, 2, 0, 0, 1, 4, 0, 0]),
+        // line 0 was collected, line 1 was not
+        (flags, &[1, 0, 0, 0, 0, 0, 0, 0]),
     ];
     for (at, bytes) in places {
         assert_eq!(saved[at..at + bytes.len()], *bytes, "at {at}");
@@ -127,19 +130,19 @@ fn the_format_is_fixed() {
     // tag 0 holds below the third frame, tag 1 without bound
     assert_eq!(saved[history..history + 4], [2, 0, 255, 255]);
     assert_eq!(saved.len(), history + 512);
-    assert_eq!(Store::FORMAT, 1);
+    assert_eq!(Store::FORMAT, 2);
 }
 
 #[test]
 fn another_format_is_refused() {
     let bytes = used(settings(8, 16, 2), 5, 100).save();
-    for number in [0, 2, 3, 255, 256, 1 << 24, u32::MAX] {
+    for number in [0, 1, 3, 255, 256, 1 << 24, u32::MAX] {
         let mut other = bytes.clone();
         other[..4].copy_from_slice(&number.to_le_bytes());
         assert_eq!(Store::load(&other).err(), Some(LoadError::Format(number)));
     }
     // the number comes first: bytes of another format need not be long
-    assert_eq!(Store::load(&[2, 0, 0, 0]).err(), Some(LoadError::Format(2)));
+    assert_eq!(Store::load(&[1, 0, 0, 0]).err(), Some(LoadError::Format(1)));
 }
 
 #[test]

@@ -25,7 +25,7 @@ fn session() {
     assert_eq!(store.write(1, 2, 1), Err(Refusal::Pages));
     assert_eq!(store.rollback(2), Ok(()));
     assert_eq!(store.read(4, 0), reading(305_419_896, Origin::Frame(0)));
-    assert_eq!(store.read(1, 16), reading(0, Origin::Archive));
+    assert_eq!(store.read(1, 16), reading(0, Origin::Empty));
     assert_eq!(store.rollback(1), Err(Refusal::Marks));
     assert_eq!(store.read(2, 1), Err(Refusal::Alignment));
     assert_eq!(store.counts(), Ok(Counts { live: 1, pages: 1 }));
@@ -69,7 +69,7 @@ fn reset_takes_memory_of_the_right_size() {
     store.write(1, 0, 7).unwrap();
     store.reset(settings(4096, 256, 4096)).unwrap();
     assert_eq!(store.settings(), settings(4096, 256, 4096));
-    assert_eq!(store.read(1, 0), reading(0, Origin::Archive));
+    assert_eq!(store.read(1, 0), reading(0, Origin::Empty));
     assert_eq!(store.write(4, 16 * 4096 - 4, u32::MAX), Ok(()));
     store.reset(settings(8, 16, 1)).unwrap();
     assert_eq!(store.counts(), Ok(Counts { live: 1, pages: 0 }));
@@ -77,7 +77,7 @@ fn reset_takes_memory_of_the_right_size() {
     // the same settings again: the same memory, all zero
     store.write(1, 0, 7).unwrap();
     store.reset(settings(8, 16, 1)).unwrap();
-    assert_eq!(store.read(1, 0), reading(0, Origin::Archive));
+    assert_eq!(store.read(1, 0), reading(0, Origin::Empty));
 }
 
 #[test]
@@ -102,10 +102,40 @@ fn refused_reset_leaves_the_store() {
 /// LINE changes nothing: the line is not in the cache afterwards.
 #[test]
 fn line_is_not_a_use() {
-    let mut store = Store::new(settings(8, 16, 1)).unwrap();
-    assert_eq!(store.line(3), Ok([0; 16]));
+    let mut store = Store::new(settings(8, 16, 2)).unwrap();
+    store.write(1, 48, 7).unwrap();
+    store.mark().unwrap();
+    store.write(1, 48, 8).unwrap();
+    store.rollback(1).unwrap();
+    assert_eq!(store.line(3).unwrap()[0], 7);
+    assert_eq!(store.read(1, 48), reading(7, Origin::Frame(0)));
+    assert_eq!(store.read(1, 48), reading(7, Origin::Cache));
+}
+
+/// A line is empty, in the cache or not, until a write to it survives; once that is collected, until RESET it never is again.
+#[test]
+fn a_line_is_empty_until_a_write_survives() {
+    let mut store = Store::new(settings(8, 16, 2)).unwrap();
+    for _ in 0..2 {
+        assert_eq!(store.read(1, 48), reading(0, Origin::Empty));
+    }
+    store.mark().unwrap();
+    store.write(1, 48, 0).unwrap();
+    assert_eq!(store.read(1, 63), reading(0, Origin::Cache));
+    store.rollback(1).unwrap();
+    assert_eq!(store.read(1, 48), reading(0, Origin::Empty));
+    // collected with the oldest frame; the newest version, which the cache holds, is taken back
+    store.write(1, 48, 0).unwrap();
+    store.mark().unwrap();
+    store.mark().unwrap();
+    store.write(1, 48, 9).unwrap();
+    store.advance(1).unwrap();
+    store.rollback(1).unwrap();
     assert_eq!(store.read(1, 48), reading(0, Origin::Archive));
     assert_eq!(store.read(1, 48), reading(0, Origin::Cache));
+    assert_eq!(store.read(1, 64), reading(0, Origin::Empty));
+    store.reset(settings(8, 16, 2)).unwrap();
+    assert_eq!(store.read(1, 48), reading(0, Origin::Empty));
 }
 
 #[test]
@@ -190,7 +220,7 @@ fn a_store_can_go_to_another_thread() {
     }
     let mut store = may_go(Store::new(settings(8, 16, 1)).unwrap());
     let there = std::thread::spawn(move || store.read(1, 0)).join();
-    assert_eq!(there.unwrap(), reading(0, Origin::Archive));
+    assert_eq!(there.unwrap(), reading(0, Origin::Empty));
     let shown = format!("{:?}", Store::new(settings(8, 16, 1)).unwrap());
     assert!(shown.contains("lines: 8") && shown.len() < 100);
 }

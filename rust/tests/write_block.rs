@@ -134,7 +134,7 @@ fn too_few_answers_refuse_the_whole_block() {
 fn the_call_over_lent_memory() {
     let (mut archive, mut pool) = ([9; 128], [9; 128]);
     let (mut groups, mut table) = ([9; 8], [9; 16]);
-    let (mut owners, mut history) = ([9; 1], [9; 256]);
+    let (mut owners, mut history) = ([9; 9], [9; 256]);
     let mut lent = Lent {
         archive: &mut archive,
         pool: &mut pool,

@@ -21,7 +21,7 @@ static void within(uint32_t l, uint32_t f, uint32_t p) {
     expect(VCM_POOL_BYTES(p) == need.pool);
     expect(VCM_GROUPS_BYTES(l, f) == need.groups);
     expect(VCM_TABLE_BYTES(l, f) == need.table);
-    expect(VCM_OWNERS_BYTES(p) == need.owners);
+    expect(VCM_OWNERS_BYTES(l, p) == need.owners);
     expect(VCM_HISTORY_BYTES == need.history);
     size_t all = need.archive + need.pool + need.groups + need.table + need.owners + need.history;
     expect(VCM_BLOCK_BYTES(l, f, p) == all);

@@ -188,9 +188,13 @@ int main(void) {
     expect(vcm_reset(&state, &memory, L, F, P) == VCM_OK);
     expect(check_says_yes());
 
-    /* and damage that it cannot tell: a line of the archive which the cache does not hold */
+    /* a line of the archive that was not collected and is not zero */
     put_back(&taken);
     block.archive[16 * 14] = 1;
+    expect(!check_says_yes());
+
+    /* and damage that it cannot tell: the same line as if it were collected, which the cache does not hold */
+    block.owners[P + 14] = 1;
     expect(check_says_yes());
 
     printf("snapshot: put back in two places; without a part CHECK says no %d times, an answer differs %d times\n", said_no, told_otherwise);

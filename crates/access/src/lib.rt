@@ -71,7 +71,8 @@ fn load(
     version
 }
 
-// READ: from the cache where it holds the line, else from where the newest version stands; the cache has the line afterwards.
+// READ: from the cache where it holds the line, else from where the newest version stands; the cache has the line afterwards. A line that no
+// surviving write has touched is empty, in the cache or not.
 pub fn read(
     registers: Registers,
     held: &mut [u32; 32],
@@ -106,9 +107,18 @@ pub fn read(
     match cache::find(held, valid, line) {
         Entry::Hit(entry) => {
             cache::recall(last, entry);
+            let frame = cache::frame_of(origins, entry);
+            let value = cache::value_at(bytes, entry, width, address % 16);
+            if versions::is_empty(owners, registers.pages, line, frame) {
+                return Reading {
+                    refusal: 0,
+                    value,
+                    origin: Origin::Empty,
+                };
+            }
             Reading {
                 refusal: 0,
-                value: cache::value_at(bytes, entry, width, address % 16),
+                value,
                 origin: Origin::Cache,
             }
         }
@@ -131,9 +141,17 @@ pub fn read(
             );
             let content = version.content;
             let origin = version.origin;
+            let value = pages::lines::value_of(content, width, address % 16);
+            if versions::is_empty(owners, registers.pages, line, version.frame) {
+                return Reading {
+                    refusal: 0,
+                    value,
+                    origin: Origin::Empty,
+                };
+            }
             Reading {
                 refusal: 0,
-                value: pages::lines::value_of(content, width, address % 16),
+                value,
                 origin,
             }
         }

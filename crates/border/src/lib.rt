@@ -16,6 +16,8 @@ pub const FRAME: u32 = 1;
 
 pub const CACHE: u32 = 2;
 
+pub const EMPTY: u32 = 3;
+
 // The registers that are lent.
 pub fn read_registers(lent: &[u32; 8]) -> Registers
     ensures { λ r. ⌜ r ≡ registersFrom (now (lent .entry)) ⌝ }
@@ -70,6 +72,7 @@ pub fn origin_number(found: Origin) -> u32
         Origin::Cache => CACHE,
         Origin::Frame(back) => FRAME,
         Origin::Archive => ARCHIVE,
+        Origin::Empty => EMPTY,
     }
 }
 
@@ -81,6 +84,7 @@ pub fn marks_back(found: Origin) -> u32
         Origin::Cache => 0,
         Origin::Frame(back) => back,
         Origin::Archive => 0,
+        Origin::Empty => 0,
     }
 }
 

@@ -13,7 +13,7 @@ use Rattle.rules.specs.Figure3.{unlessGone, forget}
 use Rattle.rules.proofs.Tests.{both-true}
 use Rattle.cache.specs.declared.Cache.{Cache}
 use Rattle.cache.specs.Entries.{Sized, heldLine, heldFrame, isValid, heldBytes, All, bytesIn, isValidIn}
-use Rattle.cache.specs.Steps.{isDropped, flagAfter, flagsAfter, forgotten, frameAfter, framesAfter, collected}
+use Rattle.cache.specs.Steps.{isDropped, flagAfter, flagsAfter, forgotten, frameAfter, framesAfter, advancedCache}
 use Rattle.cache.specs.Shown.{lineIn, shown}
 use Rattle.lists.proofs.Lists.{rewrite-length, rewrite-past, rewrite-at}
 use Rattle.cache.proofs.Hits.{valid-below}
@@ -80,9 +80,9 @@ module _ (c : Cache) (s : Sized c) (frames omf n : ℕ) where
       = both-true (isValid c e) (not (isDropped frames omf n (heldFrame c e))) (sym (forgotten-valid e) ∙ v) in
       kept (heldLine c e) (heldFrame c e) (heldBytes c e) (not-true (isDropped frames omf n (heldFrame c e)) (both .1)) (all e (both .0))
 
-  pub collected-sized : Sized (collected c frames omf n)
-  unfolding collected framesAfter
-  collected-sized =
+  pub advanced-sized : Sized (advancedCache c frames omf n)
+  unfolding advancedCache framesAfter
+  advanced-sized =
       record {
         held = s .held;
         origins = rewrite-length (λ e frame. frameAfter frames omf n frame) (c .origins) 32 ∙ s .origins;
@@ -91,18 +91,18 @@ module _ (c : Cache) (s : Sized c) (frames omf n : ℕ) where
         last = s .last;
       }
 
-  pub collected-shown : shown (collected c frames omf n) ≡ shown c
-  unfolding shown lineIn isValidIn collected
-  collected-shown = refl
+  pub advanced-shown : shown (advancedCache c frames omf n) ≡ shown c
+  unfolding shown lineIn isValidIn advancedCache
+  advanced-shown = refl
 
-  pub collected-frame : (e : ℕ) → e < 32 → heldFrame (collected c frames omf n) e ≡ frameAfter frames omf n (heldFrame c e)
-  unfolding collected framesAfter
-  collected-frame e b =
+  pub advanced-frame : (e : ℕ) → e < 32 → heldFrame (advancedCache c frames omf n) e ≡ frameAfter frames omf n (heldFrame c e)
+  unfolding advancedCache framesAfter
+  advanced-frame e b =
       rewrite-at (λ e frame. frameAfter frames omf n frame) (c .origins) 32 e b (omega (arith, s .origins))
 
-  pub collected-all : (R Q : ℕ → ℕ → List ℕ → Type 0) → All R c
-      → ((m g : ℕ) (b : List ℕ) → R m g b → Q m (frameAfter frames omf n g) b) → All Q (collected c frames omf n)
-  unfolding collected bytesIn isValidIn
-  collected-all R Q all kept e v =
-      carried Q refl (sym (collected-frame e (valid-below c e s v))) refl
+  pub advanced-all : (R Q : ℕ → ℕ → List ℕ → Type 0) → All R c
+      → ((m g : ℕ) (b : List ℕ) → R m g b → Q m (frameAfter frames omf n g) b) → All Q (advancedCache c frames omf n)
+  unfolding advancedCache bytesIn isValidIn
+  advanced-all R Q all kept e v =
+      carried Q refl (sym (advanced-frame e (valid-below c e s v))) refl
       (kept (heldLine c e) (heldFrame c e) (heldBytes c e) (all e v))

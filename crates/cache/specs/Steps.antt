@@ -66,5 +66,5 @@ framesAfter frames omf k origins = rewrite 32 (λ e frame. frameAfter frames omf
 abbrev pub withOrigins : Cache → (origins : List ℕ) → Cache
 withOrigins c origins = cacheOf (c .held) origins (c .valid) (c .bytes) (c .last)
 
-unfoldable pub collected : Cache → (frames omf k : ℕ) → Cache
-collected c frames omf k = withOrigins c (framesAfter frames omf k (c .origins))
+unfoldable pub advancedCache : Cache → (frames omf k : ℕ) → Cache
+advancedCache c frames omf k = withOrigins c (framesAfter frames omf k (c .origins))

@@ -56,7 +56,7 @@ fn turn(
     pool: &[u8],
     groups: &mut [u32],
     table: &[u16],
-    owners: &[u32],
+    owners: &mut [u32],
     history: &mut [u16],
     call: Call,
 ) -> Outcome {
@@ -91,6 +91,7 @@ fn origin_of(origin: Origin) -> usize {
         Origin::Cache => copies::CACHE,
         Origin::Frame(back) => back as usize,
         Origin::Archive => copies::ARCHIVE,
+        Origin::Empty => copies::EMPTY,
     }
 }
 

@@ -92,7 +92,7 @@ pub fn print(tally: Tally) {
         write        read         line         mark         rollback     advance      counts       check        \
         block        resets done  sweeps       turns        CHECK yes    differences  most live    room again   \
         conflicts    items        items done   items got 7  items got 8  items got 9  items got 10 items got 13 \
-        behind a 13  empty blocks equal lists  longer lists 5 before 14  6 before 14  ",
+        behind a 13  empty blocks equal lists  longer lists 5 before 14  6 before 14  empty lines  ",
         &n,
     );
 }

@@ -3,7 +3,7 @@ use copies::Answer;
 use copies::Call;
 use std::num::wrapping_add_usize;
 
-// Answers by refusal, 0 for accepted; origins in the places 1 to 3; calls by kind from 15 on; the answers to the items of
+// Answers by refusal, 0 for accepted; origins in the places 1 to 3 and 46; calls by kind from 15 on; the answers to the items of
 // accepted blocks from 34 on; what is named below; and by their refusals, 44 and 45, blocks that got 5 and 6 with too few answers.
 pub struct Tally {
     pub n: [usize; 48],
@@ -31,6 +31,9 @@ const EQUAL: usize = 42;
 
 const LONGER: usize = 43;
 
+// Reads of a line that no surviving write has touched.
+const EMPTY_LINE: usize = 46;
+
 // Not printed.
 const OTHER: usize = 47;
 
@@ -57,6 +60,7 @@ fn origin(n: usize) -> usize {
     match n {
         copies::CACHE => 1,
         copies::ARCHIVE => 3,
+        copies::EMPTY => EMPTY_LINE,
         _ => 2,
     }
 }

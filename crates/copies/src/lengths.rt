@@ -1,5 +1,6 @@
 // How long the lent pieces are, and how long they have to be: the papers' sizes, in elements.
 use crate::memory::times;
+use std::num::wrapping_add_usize;
 
 // The elements of each piece: bytes of the archive and the pool, numbers of the others.
 pub struct Lengths {
@@ -12,14 +13,14 @@ pub struct Lengths {
 }
 
 // What a store of these settings needs: 16 bytes a line, 128 a page, a group for each line and 16 frames, a place in the table for each frame
-// and 8 lines, an owner for each page, and a bound for each of 256 tags.
+// and 8 lines, an owner for each page and a flag for each line behind them, and a bound for each of 256 tags.
 pub fn least(lines: usize, frames: usize, pages: usize) -> Lengths {
     Lengths {
         archive: times(16, lines),
         pool: times(128, pages),
         groups: times(frames / 16, lines),
         table: times(frames, lines / 8),
-        owners: pages,
+        owners: wrapping_add_usize(pages, lines),
         history: 256,
     }
 }

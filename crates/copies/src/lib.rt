@@ -45,6 +45,8 @@ pub const CACHE: usize = 1000;
 
 pub const ARCHIVE: usize = 1001;
 
+pub const EMPTY: usize = 1002;
+
 // A call, on the store's state or on the blank one.
 pub struct Call {
     pub kind: u32,
@@ -159,9 +161,11 @@ fn mark(memory: &mut [u32], plain: Plain) -> Plain {
     after
 }
 
-// An accepted ADVANCE: what the k-th oldest frame left becomes the base, and the rest moves down.
+// An accepted ADVANCE: what the k-th oldest frame left becomes the base, with every line written that the base or a collected frame has, and the
+// rest moves down.
 fn advance(memory: &mut [u32], plain: Plain, k: usize) -> Plain {
     let all = size(plain.lines);
+    memory::gather(memory, plain.lines, k);
     let left = wrapping_sub_usize(plain.live, k);
     let count = memory::times(wrapping_add_usize(left, 1), all);
     copy(memory, 0, memory::times(k, all), count, false);
@@ -205,7 +209,7 @@ fn change(memory: &mut [u32], plain: Plain, call: Call) -> Plain {
 fn reading(memory: &[u32], plain: Plain, width: usize, address: usize) -> Answer {
     let cache = plain.cache;
     let mut origin = memory::newest(memory, plain.lines, plain.live, address / 16);
-    if recent::entry_of(cache, address / 16) < 32 {
+    if origin != EMPTY && recent::entry_of(cache, address / 16) < 32 {
         origin = CACHE;
     }
     Answer {

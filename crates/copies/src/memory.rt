@@ -1,6 +1,8 @@
 // The copies in one lent list of words. A block of 8 lines takes 33: 4 for each line, the most significant byte first, and one with a bit for
-// each line that the frame wrote. A copy is the blocks in order; the base comes first, then what each live frame leaves, the oldest first.
+// each line that the frame wrote, in the base for each line that was ever written there. A copy is the blocks in order; the base comes first,
+// then what each live frame leaves, the oldest first.
 use crate::ARCHIVE;
+use crate::EMPTY;
 use std::num::wrapping_add_usize;
 use std::num::wrapping_sub_usize;
 ghost use mathlib.Core.Path.{_≡_};
@@ -80,15 +82,41 @@ pub fn copy(memory: &mut [u32], to: usize, from: usize, count: usize, fresh: boo
     }
 }
 
-// How many marks back the newest frame lies that wrote a line, or the archive.
+// Whether a line is written in the copy that the n-th frame leaves.
+fn is_written(memory: &[u32], lines: usize, n: usize, line: usize) -> bool {
+    (bits(memory, lines, n, line) >> (line % 8)) % 2 == 1
+}
+
+// How many marks back the newest frame lies that wrote a line, or the archive, or nothing if no write to it is left.
 pub fn newest(memory: &[u32], lines: usize, live: usize, line: usize) -> usize {
     for back in 0..live {
-        let set = bits(memory, lines, live - back, line);
-        if (set >> (line % 8)) % 2 == 1 {
+        if is_written(memory, lines, live - back, line) {
             return back;
         }
     }
-    ARCHIVE
+    if is_written(memory, lines, 0, line) {
+        return ARCHIVE;
+    }
+    EMPTY
+}
+
+// The bits of a block's lines that are written in the base or in one of the k oldest frames.
+fn gathered(memory: &[u32], lines: usize, k: usize, line: usize) -> usize {
+    let mut set = bits(memory, lines, k, line);
+    for n in 0..k {
+        set = set | bits(memory, lines, n, line);
+    }
+    set
+}
+
+// Notes these in the copy that the k-th oldest frame leaves.
+pub fn gather(memory: &mut [u32], lines: usize, k: usize) {
+    let blocks = lines / 8;
+    for i in 0..blocks {
+        let line = times(8, i);
+        let set = gathered(memory, lines, k, line);
+        put(memory, wrapping_add_usize(block(lines, k, line), 32), set);
+    }
 }
 
 // Whether the block of a line has a written line in CMF.

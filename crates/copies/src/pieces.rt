@@ -30,10 +30,10 @@ pub fn table_room() -> [u16; 131072]
     [0; 131072]
 }
 
-pub fn owners_room() -> [u32; 4096]
-    ensures { λ r. ⌜ 4096 ≡ length r ⌝ }
+pub fn owners_room() -> [u32; 8192]
+    ensures { λ r. ⌜ 8192 ≡ length r ⌝ }
 {
-    [0; 4096]
+    [0; 8192]
 }
 
 pub fn history_room() -> [u16; 256]

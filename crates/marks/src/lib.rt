@@ -82,7 +82,7 @@ pub fn rollback(
     }
 }
 
-// ADVANCE: folds the k oldest frames into the archive and frees them.
+// ADVANCE: folds the k oldest frames into the archive and frees them. The lines copied are collected from then on.
 pub fn advance(
     mut registers: Registers,
     origins: &mut [u16; 32],
@@ -90,12 +90,12 @@ pub fn advance(
     pool: &[u8],
     groups: &mut [u32],
     table: &[u16],
-    owners: &[u32],
+    owners: &mut [u32],
     history: &mut [u16],
     k: u32,
 ) -> Step
     ensures { λ r. ⌜ AdvancesIn registers (now (origins .entry)) (memoryOf (now (archive .entry)) (now (pool .entry)) (now (groups .entry)) (now (table .entry)) (now (owners .entry)) (now (history .entry))) k (r .refusal) (r .registers) (now (origins .exit))
-        (memoryOf (now (archive .exit)) (now (pool .entry)) (now (groups .exit)) (now (table .entry)) (now (owners .entry)) (now (history .exit))) ⌝ }
+        (memoryOf (now (archive .exit)) (now (pool .entry)) (now (groups .exit)) (now (table .entry)) (now (owners .exit)) (now (history .exit))) ⌝ }
 {
     let lengths = storage::measure(archive, pool, groups, table, owners, history);
     let refusal = storage::admit_frames(registers, lengths, k);
@@ -103,7 +103,7 @@ pub fn advance(
         return Step { registers, refusal };
     }
     let ring = storage::ring(registers);
-    let gone = versions::fold(archive, pool, groups, history, owners, ring, k);
+    let gone = versions::fold(archive, pool, groups, owners, history, ring, k);
     versions::clear(groups, owners, ring, gone);
     written::lower(history, k as u16);
     cache::collect(origins, registers.frames, registers.omf, k);

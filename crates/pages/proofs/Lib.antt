@@ -5,3 +5,4 @@ pub mod Halving
 pub mod Owning
 pub mod Moves
 pub mod Keeping
+pub mod Flagging

@@ -1,4 +1,6 @@
-// Pages of 8 lines: the table that names them (table), the circle in which they are given out (segment), and the lines in them (lines).
+// Pages of 8 lines: the table that names them (table), the circle in which they are given out (segment), the lines in them (lines), and the flags
+// of the lines that were collected from them (flags).
+pub mod flags;
 pub mod lines;
 pub mod segment;
 pub mod table;

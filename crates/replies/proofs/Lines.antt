@@ -14,7 +14,7 @@ use Rattle.text.specs.Output.{Puts}
 use Rattle.text.proofs.Putting.{puts-length, puts-then, decimal-few}
 use Rattle.rules.specs.Call.{Origin, Answer, numberIn}
 use Rattle.rules.specs.Call.Place.{in-frame, in-archive}
-use Rattle.rules.specs.Call.Origin.{from-cache, from}
+use Rattle.rules.specs.Call.Origin.{from-cache, from, empty}
 use Rattle.rules.specs.Call.Answer.{outcome, reading, lending, counting, verdict, filling}
 use Rattle.replies.specs.declared.Shown.{Shown}
 use Rattle.replies.specs.declared.Shown.the-variants.{Nothing, Read, Counts}
@@ -30,6 +30,7 @@ unfolding originText
 origin-few from-cache = omega arith
 origin-few (from (in-frame back)) = decimal-few back
 origin-few (from in-archive) = omega arith
+origin-few empty = omega arith
 
 values-few : (a : Answer) → length (valuesText a) ≤ 42
 unfolding valuesText

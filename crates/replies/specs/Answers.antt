@@ -7,14 +7,15 @@ use Rattle.text.specs.Parts.{Text}
 use Rattle.text.specs.Numbers.{decimal}
 use Rattle.rules.specs.Call.{Origin, Answer, numberIn}
 use Rattle.rules.specs.Call.Place.{in-frame, in-archive}
-use Rattle.rules.specs.Call.Origin.{from-cache, from}
+use Rattle.rules.specs.Call.Origin.{from-cache, from, empty}
 use Rattle.rules.specs.Call.Answer.{outcome, reading, lending, counting, verdict, filling}
 
--- "origin (`c` cache, `a` archive, or marks back)".
+-- "origin (`c` cache, `a` archive, or marks back)", and (request 2.3) `e` where no surviving write has touched the line.
 unfoldable pub originText : Origin → Text
 originText from-cache = 99 ∷ []
 originText (from (in-frame back)) = decimal back
 originText (from in-archive) = 97 ∷ []
+originText empty = 101 ∷ []
 
 -- "After `ok`, a read gives value and origin ..; counts gives live frames and pages"; "fields are parted by one tab". (No record asks for
 -- a LINE, a CHECK or a block of writes.)

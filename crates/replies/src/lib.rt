@@ -42,6 +42,7 @@ fn put_origin(out: &mut [u8], at: usize, origin: Origin) -> usize
         Origin::Cache => text::put(out, at, b"\tc"),
         Origin::Frame(back) => put_number(out, at, back as u64),
         Origin::Archive => text::put(out, at, b"\ta"),
+        Origin::Empty => text::put(out, at, b"\te"),
     }
 }
 

@@ -35,6 +35,17 @@ any-false n f e i b = go (f i) refl
     go true p = absurd (mathlib.Core.Bool.false≢true (sym e ∙ any-true n f i b p))
     go false p = refl
 
+pub any-first : (n : ℕ) (f : ℕ → Bool) → any (suc n) f ≡ (f 0 || any n (λ j. f (suc j)))
+unfolding any
+any-first zero f = refl
+any-first (suc n) f =
+    ap (λ (b : Bool). f (suc n) || b) (any-first n f) ∙ or-exchange (f (suc n)) (f 0) (any n (λ j. f (suc j)))
+  where
+    or-exchange : (a b c : Bool) → (a || (b || c)) ≡ (b || (a || c))
+    or-exchange true true c = refl
+    or-exchange true false c = refl
+    or-exchange false b c = refl
+
 pub any-found : (n : ℕ) (f : ℕ → Bool) → any n f ≡ true → (i : ℕ) × (i < n) × (f i ≡ true)
 unfolding any
 any-found zero f e = absurd (mathlib.Core.Bool.false≢true e)

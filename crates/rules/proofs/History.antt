@@ -274,7 +274,7 @@ module _ (s : Settings) where
 
   -- The history that a figure shows.
   pub drawn : Figure → Plain
-  drawn f = record { settings = s; base = f .archive; groups = groupsOf (s .lines) (f .live) (f .frame) }
+  drawn f = record { settings = s; base = f .archive; collected = f .collected; groups = groupsOf (s .lines) (f .live) (f .frame) }
 
   pub drawn-settings : (f : Figure) → drawn f .settings ≡ s
   unfolding drawn
@@ -289,6 +289,7 @@ module _ (s : Settings) where
         live = groups-length (s .lines) (f .archive) (w .archive-line) (f .live) (f .frame) i;
         frame = λ j l. frames-back (s .lines) (f .archive) (w .archive-line) (f .live) (f .frame) q j l i;
         archive = f .archive;
+        collected = f .collected;
       }
 
   -- and it is a history that calls can have left.
@@ -301,6 +302,7 @@ module _ (s : Settings) where
         in-circle = rw long (w .in-circle);
         writes = groups-acceptable (f .live) (f .frame) (w .line);
         base-line = w .archive-line;
-        base-lines = w .archive-lines;
+        collected-lines = w .collected-lines;
+        base-empty = w .archive-empty;
         pages = subst (λ (v : Seen). v .pages ≤ s .pages) (sym (ap (figureSeen s) (picture-drawn f w)) ∙ seen-is (drawn f)) (w .pages);
       }

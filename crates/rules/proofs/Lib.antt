@@ -12,6 +12,7 @@ pub mod Steps
 pub mod Alike
 pub mod History
 pub mod Demand3
+pub mod Empty
 pub mod WellSteps
 pub mod WellCache
 pub mod Promise

@@ -1,15 +1,16 @@
 -- What a write and a read of a line do, with the width as a parameter: a write is read back, and changes no byte outside its own.
 -- Assumes nothing.
 use mathlib.Core.Path.{_≡_, refl, sym, _∙_, ap}
-use mathlib.Core.List.{_++_}
+use mathlib.Core.List.{List, [], _∷_, _++_}
 use Prim.Native.Nat.{ℕ, zero, suc, _+_, _-_, _*_, _/_, _%_, _^_, _≤_, _<_}
 use native.Mathlib.Nat.{mod-lt, mod-eq-of-lt, mul-assoc, add-mul, pow-succ', mod-one, zero-mul, add-assoc}
 use native.Mathlib.Omega.{arith}
 use native.Mathlib.Decide.{decLt}
 use lib.Arith.{mod-mul}
-use lib.ListN.{length, getD, take, drop, length-append, length-drop, List·getD-append}
+use lib.ListN.{length, getD, replicate, take, drop, length-append, length-drop, List·getD-append}
 use lib.Seq.{length-take-le, drop-at, take-at, getD-take, getD-drop, getD-append-add}
-use Rattle.rules.specs.Line.{Line, IsLine, bytesOf, valueOf, edit, valueAt}
+use Rattle.rules.specs.Line.{Line, IsLine, zeros, bytesOf, valueOf, edit, valueAt}
+use Rattle.rules.specs.Plain.{Each}
 
 pow-256-pos : (w : ℕ) → 0 < 256 ^ w
 pow-256-pos w = native.Mathlib.Nat.one-le-pow w 256 (omega arith)
@@ -95,3 +96,27 @@ module _ (w o v : ℕ) (x : Line) (fits : o + w ≤ length x) where
 
   pub line-edit : IsLine x → IsLine (edit w o v x)
   line-edit h = record { long = length-edit ∙ h .long; small = edit-small (h .small) }
+
+-- A value of a line of zeros is 0.
+zeros-each : (n : ℕ) → Each (λ (x : ℕ). x ≡ 0) (replicate n 0)
+zeros-each zero = tt
+zeros-each (suc n) = (refl, zeros-each n)
+
+each-drop : (n : ℕ) (xs : List ℕ) → Each (λ (x : ℕ). x ≡ 0) xs → Each (λ (x : ℕ). x ≡ 0) (drop n xs)
+each-drop zero xs h = h
+each-drop (suc n) [] h = tt
+each-drop (suc n) (x ∷ xs) h = each-drop n xs (h .1)
+
+each-take : (n : ℕ) (xs : List ℕ) → Each (λ (x : ℕ). x ≡ 0) xs → Each (λ (x : ℕ). x ≡ 0) (take n xs)
+each-take zero xs h = tt
+each-take (suc n) [] h = tt
+each-take (suc n) (x ∷ xs) h = (h .0, each-take n xs (h .1))
+
+value-nought : (xs : List ℕ) → Each (λ (x : ℕ). x ≡ 0) xs → valueOf 0 xs ≡ 0
+unfolding valueOf
+value-nought [] h = refl
+value-nought (x ∷ xs) h = ap (λ (n : ℕ). valueOf n xs) (omega (arith, h .0)) ∙ value-nought xs (h .1)
+
+pub zeros-value : (w o : ℕ) → valueAt w o zeros ≡ 0
+unfolding valueAt zeros
+zeros-value w o = value-nought _ (each-take w _ (each-drop o _ (zeros-each 16)))

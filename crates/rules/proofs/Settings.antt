@@ -71,11 +71,17 @@ table-bound l f = rw (mul-assoc f (l / 8) 8, mul-comm l f) (mul-le-mul-left f (d
 -- The sizing call's answer keeps the bound on lent memory, whatever the settings asked for, refused ones included.
 pub sizing-bound : (s : Settings) → Bounded s (sizing s)
 unfolding sizing sizesOf noSizes bytes elements
-sizing-bound s = go (within s)
+sizing-bound s = go (within s) refl
   where
-    go : (b : Bool) → Bounded s (cond b (sizesOf s) noSizes)
-    go true = omega (arith, groups-bound (s .lines) (s .frames), table-bound (s .lines) (s .frames))
-    go false = omega arith
+    go : (b : Bool) → within s ≡ b → Bounded s (cond b (sizesOf s) noSizes)
+    go true e =
+        omega (
+          arith,
+          groups-bound (s .lines) (s .frames),
+          table-bound (s .lines) (s .frames),
+          mul-le-mul-left (s .lines) (within-good s e .frames-from),
+        )
+    go false e = omega arith
 
 -- the products of the sizing call stay small
 pub record Small (l f : ℕ) : Type 0 where

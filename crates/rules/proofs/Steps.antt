@@ -17,12 +17,13 @@ use Rattle.rules.specs.Call.{Act}
 use Rattle.rules.specs.Call.Change.{WRITE, MARK, ROLLBACK, ADVANCE}
 use Rattle.rules.specs.Call.Act.{READ, LOOK, CHANGE}
 use Rattle.rules.specs.Refusal.{Facts, actRefusal}
+use Rattle.rules.specs.Seen.{any}
 use Rattle.rules.specs.Call.{Write}
-use Rattle.rules.specs.Plain.{Group, Plain, withGroups, play, playGroup, playAll, touches, addWrite, fresh, plainStep}
+use Rattle.rules.specs.Plain.{Group, Plain, withGroups, play, playGroup, playAll, touches, touchedIn, addWrite, fresh, plainStep}
 use Rattle.rules.specs.Registers.{Registers}
-use Rattle.rules.specs.Figure2.{withFrames, versionIn, mrv, omrv, initial, written, marked, figureStep, registersStep}
+use Rattle.rules.specs.Figure2.{withFrames, isWritten, versionIn, mrv, omrv, hasOmrv, initial, written, marked, figureStep, registersStep}
 use Rattle.rules.proofs.Chain.{marked-passed}
-use Rattle.rules.proofs.Picture.{frameIn, picture, version-is, getD-cond}
+use Rattle.rules.proofs.Picture.{frameIn, picture, touched-any, version-is, getD-cond}
 
 cond-same : {A : Type 0} (b : Bool) (x : A) → cond b x x ≡ x
 cond-same true x = refl
@@ -62,7 +63,7 @@ copied-is g gs base l =
 
 pub fresh-is : (s : Settings) → picture (fresh s) ≡ initial
 unfolding picture fresh initial frameIn touches
-fresh-is s = λ i. record { live = 1; frame = λ j l. never j l i; archive = λ l. zeros }
+fresh-is s = λ i. record { live = 1; frame = λ j l. never j l i; archive = λ l. zeros; collected = λ l. false }
   where
     never : (j l : ℕ) → frameIn ([] ∷ []) (λ l. zeros) j l ≡ none
     never zero l = refl
@@ -123,6 +124,14 @@ module _ (r : Registers) (p : Plain) where
       (length-drop (length gs - k) gs ∙ omega arith)
       (fun-ext (λ j. frame-drop (length gs - k) gs base j l))
 
+  -- and it exists where one of these groups writes the line
+  exists-is : (k : ℕ) (gs : List Group) → k ≤ length gs → (l : ℕ) → touchedIn (drop (length gs - k) gs) l ≡ hasOmrv (picture (holding gs)) k l
+  unfolding hasOmrv picture holding
+  exists-is k gs h l =
+      touched-any (drop (length gs - k) gs) base l
+      ∙ ap₂ any (length-drop (length gs - k) gs ∙ omega arith)
+      (fun-ext (λ j. ap isWritten (frame-drop (length gs - k) gs base j l)))
+
   length-kept : (k : ℕ) (gs : List Group) → k ≤ length gs → length (take (length gs - k) gs) ≡ length gs - k
   length-kept k gs h = length-take (length gs - k) gs ∙ omega arith
 
@@ -133,6 +142,7 @@ module _ (r : Registers) (p : Plain) where
     live = length-kept k gs h i;
     frame = λ j l. frame-take (length gs - k) gs base j l i;
     archive = λ l. omrv-is k gs h l i;
+    collected = λ l. exists-is k gs h l i || p .collected l;
   }
 
 -- An act of the plain store, beside registers: it is Figure 2's step of the picture, it leaves a group, and the settings stay one.

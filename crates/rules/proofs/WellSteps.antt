@@ -1,9 +1,10 @@
 -- Accepted calls keep figures and caches well-formed, from RESET on. Assumes nothing.
-use mathlib.Core.Path.{_≡_, refl, sym, _∙_, ap, subst}
-use mathlib.Core.Bool.{Bool, true, false, cond}
+use mathlib.Core.Path.{_≡_, refl, sym, _∙_, ap, ap₂, subst}
+use mathlib.Core.Bool.{Bool, true, false, cond, _||_}
 use mathlib.Core.Logic.{_≢_, _⊎_, inl, inr}
 use mathlib.Core.Option.{Option, none, some, Option·getD, Option·none-ne-some, Option·some-injective}
 use Prim.Native.Nat.{ℕ, zero, suc, _+_, _-_, _/_, _≤_, _<_}
+use native.Mathlib.Decide.{decLt}
 use native.Mathlib.Numerals.{add-one}
 use native.Mathlib.Omega.{arith}
 use borrow.Author.Tests.{eqb-true, eq-eqb, ne-eqb, lt-ltb, le-ltb}
@@ -13,7 +14,7 @@ use Rattle.rules.specs.Settings.{Settings}
 use Rattle.rules.specs.Line.{Line, IsLine, zeros, edit, lineOf, offsetOf, blockOf}
 use Rattle.rules.specs.Seen.{needs}
 use Rattle.rules.specs.Registers.{Registers}
-use Rattle.rules.specs.Figure2.{Figure, withFrames, isWritten, versionIn, pagesOf, mrv, omrv, initial, written, marked, figureStep, figureSeen}
+use Rattle.rules.specs.Figure2.{Figure, withFrames, isWritten, versionIn, pagesOf, mrv, omrv, hasOmrv, initial, written, marked, figureStep, figureSeen}
 use Rattle.rules.specs.Call.Change.{WRITE, MARK, ROLLBACK, ADVANCE}
 use Rattle.rules.specs.Call.Act.{CHANGE}
 use Rattle.rules.specs.Promise.{WellFigure}
@@ -21,7 +22,8 @@ use Rattle.rules.proofs.Chain.{Placed}
 use Rattle.rules.proofs.Settings.{Good}
 use Rattle.rules.proofs.Line.{line-edit}
 use Rattle.rules.proofs.Width.{widths, in-line, line-below}
-use Rattle.rules.proofs.Count.{blocks-none, blocks-more, blocks-same, pages-same, pages-newest, pages-oldest}
+use Rattle.rules.proofs.Count.{any-false, any-none, blocks-none, blocks-more, blocks-same, pages-same, pages-newest, pages-oldest}
+use Rattle.rules.proofs.Picture.{or-false}
 use Rattle.rules.proofs.History.{version-line}
 
 -- A search that finds nothing.
@@ -46,6 +48,12 @@ pub zeros-line : IsLine zeros
 unfolding zeros
 zeros-line = record { long = refl; small = replicate-small 16 }
 
+-- A row without the written bit has nothing.
+unwritten : (o : Option Line) → isWritten o ≡ false → o ≡ none
+unfolding isWritten
+unwritten none e = refl
+unwritten (some x) e = absurd (mathlib.Core.Bool.true≢false e)
+
 -- RESET
 pub initial-well : (s : Settings) → Good s → WellFigure s initial
 unfolding initial figureSeen pagesOf isWritten
@@ -57,7 +65,8 @@ initial-well s g =
       only-lines = λ j l h. refl;
       line = λ j l x e. absurd (Option·none-ne-some x e);
       archive-line = λ l. zeros-line;
-      archive-lines = λ l h. refl;
+      collected-lines = λ l h. refl;
+      archive-empty = λ l h. refl;
       pages = omega (arith, blocks-none (s .lines / 8) (λ l. false) (λ l. refl));
     }
 
@@ -83,7 +92,8 @@ module _ (s : Settings) (r : Registers) (f : Figure) (q : WellFigure s f) where
         only-lines = h .1;
         line = h .2;
         archive-line = q .archive-line;
-        archive-lines = q .archive-lines;
+        collected-lines = q .collected-lines;
+        archive-empty = q .archive-empty;
         pages = p;
       }
 
@@ -130,6 +140,21 @@ module _ (s : Settings) (r : Registers) (f : Figure) (q : WellFigure s f) where
   kept-none true o h = h refl
   kept-none false o h = refl
 
+  -- a line without a version in the k oldest frames is not collected, and what the archive has of it stays
+  omrv-none : (k l : ℕ) → ((j : ℕ) → f .frame (f .live - k + j) l ≡ none) → hasOmrv f k l ≡ false
+  unfolding hasOmrv isWritten
+  omrv-none k l h = any-none k _ (λ j b. ap isWritten (h j))
+
+  archive-kept : (k l : ℕ) → k ≤ f .live → (hasOmrv f k l ≡ false) × (f .collected l ≡ false) → omrv f k l ≡ zeros
+  unfolding hasOmrv omrv
+  archive-kept k l few h = version-none k _ (f .archive l) gone ∙ q .archive-empty l (h .1)
+    where
+      gone : (j : ℕ) → f .frame (f .live - k + j) l ≡ none
+      gone j = elim (decLt j k) [
+        | yes b ↦ unwritten _ (any-false k _ (h .0) j b)
+        | no b ↦ q .only-live (f .live - k + j) l (omega (arith, b, few))
+      ]
+
   advance-pages : (m : ℕ) → m ≤ f .live
       → pagesOf (s .lines / 8) m (λ j l. isWritten (cond (ltb j m) (f .frame j l) none)) ≤ s .pages
   advance-pages m h =
@@ -151,7 +176,8 @@ module _ (s : Settings) (r : Registers) (f : Figure) (q : WellFigure s f) where
         only-lines = λ j l b. kept-none (ltb j (f .live - k)) (f .frame j l) (λ t. q .only-lines j l b);
         line = λ j l x. cond-line (ltb j (f .live - k)) (f .frame j l) x (q .line j l);
         archive-line = λ l. version-line k _ (f .archive l) (λ j. q .line (f .live - k + j) l) (q .archive-line l);
-        archive-lines = λ l b. version-none k _ (f .archive l) (λ j. q .only-lines (f .live - k + j) l b) ∙ q .archive-lines l b;
+        collected-lines = λ l b. ap₂ (λ (x y : Bool). x || y) (omrv-none k l (λ j. q .only-lines (f .live - k + j) l b)) (q .collected-lines l b);
+        archive-empty = λ l e. archive-kept k l (omega (arith, h)) (or-false _ _ e);
         pages = advance-pages (f .live - k) (omega arith);
       }
 

@@ -45,10 +45,12 @@ pub data Place : Type 0 where
   in-frame : (back : ℕ) → Place
   in-archive : Place
 
--- and what READ says of it: "Origin is the cache, or a frame given by how many marks back it lies (0 is CMF), or the archive."
+-- and what READ says of it: "Origin is the cache, or a frame given by how many marks back it lies (0 is CMF), or the archive"; and (request 2.3) "a read
+-- whose line no surviving write has touched gives value 0 and origin `e`".
 pub data Origin : Type 0 where
   from-cache : Origin
   from : Place → Origin
+  empty : Origin
 
 -- "An answer is the refusal's number or 0, the values, the origin and a lent line's bytes." "A list or page that a request's call takes for
 -- its answer is lent anew with that call: .. what the call leaves in it is part of the answer." In each constructor but LINE's, which lends a

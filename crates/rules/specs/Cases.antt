@@ -9,7 +9,7 @@ use Rattle.rules.specs.Settings.{Settings, Pieces, elements}
 use Rattle.rules.specs.Sizing.{settingsOf}
 use Rattle.rules.specs.Call.{Write, Call, Answer, numberIn}
 use Rattle.rules.specs.Call.Place.{in-frame, in-archive}
-use Rattle.rules.specs.Call.Origin.{from-cache, from}
+use Rattle.rules.specs.Call.Origin.{from-cache, from, empty}
 use Rattle.rules.specs.Call.Answer.{outcome, reading, counting, filling}
 use Rattle.rules.specs.Call.Look.{COUNTS}
 use Rattle.rules.specs.Call.Change.{WRITE, MARK, ROLLBACK, ADVANCE}
@@ -80,7 +80,7 @@ rows =
     ∷ record {
       asked = settingsOf 8 16 1;
       calls = read 4 124 ∷ read 4 128 ∷ read 2 127 ∷ [];
-      answers = ok ∷ reading 0 0 (from in-archive) ∷ reading 9 0 (from in-archive) ∷ reading 8 0 (from in-archive) ∷ [];
+      answers = ok ∷ reading 0 0 empty ∷ reading 9 0 (from in-archive) ∷ reading 8 0 (from in-archive) ∷ [];
       oks = 2;
       noes = 2;
     }
@@ -140,7 +140,8 @@ rows =
       oks = 8;
       noes = 0;
     }
-    -- "A whole session and its output", whose last line is "end 10 3"
+    -- "A whole session and its output", whose last line is "end 10 3". Request 2.3: "In the whole session of document 01 the answer `ok 0 a`
+    -- becomes `ok 0 e`, and comparisons use that."
     ∷ record {
       asked = settingsOf 8 16 2;
       calls =
@@ -167,7 +168,7 @@ rows =
           ∷ refuse 13
           ∷ ok
           ∷ reading 0 305419896 (from (in-frame 0))
-          ∷ reading 0 0 (from in-archive)
+          ∷ reading 0 0 empty
           ∷ refuse 11
           ∷ reading 8 0 (from in-archive)
           ∷ counting 0 1 1
@@ -196,11 +197,68 @@ rows =
           ∷ filling 0 []
           ∷ reading 0 5 from-cache
           ∷ reading 0 9 from-cache
-          ∷ reading 0 0 (from in-archive)
+          ∷ reading 0 0 empty
           ∷ counting 0 1 1
           ∷ [];
       oks = 7;
       noes = 1;
+    }
+    -- Request 2.3: a line that is written, taken back and read is empty again. Written, collected, pushed out of the cache and read it comes from the
+    -- archive, and again when a later write to it was taken back.
+    ∷ record {
+      asked = settingsOf 40 16 2;
+      calls =
+          mark
+          ∷ write 1 0 5
+          ∷ back 1
+          ∷ read 1 0
+          ∷ write 1 0 7
+          ∷ mark
+          ∷ advance 1
+          ∷ read 1 256
+          ∷ read 1 512
+          ∷ read 1 0
+          ∷ mark
+          ∷ write 1 0 8
+          ∷ back 1
+          ∷ read 1 0
+          ∷ [];
+      answers =
+          ok
+          ∷ ok
+          ∷ ok
+          ∷ ok
+          ∷ reading 0 0 empty
+          ∷ ok
+          ∷ ok
+          ∷ ok
+          ∷ reading 0 0 empty
+          ∷ reading 0 0 empty
+          ∷ reading 0 7 (from in-archive)
+          ∷ ok
+          ∷ ok
+          ∷ ok
+          ∷ reading 0 7 (from in-archive)
+          ∷ [];
+      oks = 15;
+      noes = 0;
+    }
+    -- An empty line in the cache, pushed out by two others of its set and loaded again, which pushes out the older of them.
+    ∷ record {
+      asked = settingsOf 40 16 2;
+      calls = read 1 0 ∷ read 1 0 ∷ write 1 256 1 ∷ write 1 512 2 ∷ read 1 0 ∷ read 1 512 ∷ read 1 256 ∷ [];
+      answers =
+          ok
+          ∷ reading 0 0 empty
+          ∷ reading 0 0 empty
+          ∷ ok
+          ∷ ok
+          ∷ reading 0 0 empty
+          ∷ reading 0 2 from-cache
+          ∷ reading 0 1 (from (in-frame 0))
+          ∷ [];
+      oks = 8;
+      noes = 0;
     }
     ∷ []
 

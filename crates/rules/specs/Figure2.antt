@@ -1,7 +1,7 @@
 -- Figure 2 of the report, "The rollback chip algorithm"; document 01's limits are the refusals'. Quotations are of the report unless
 -- document 01 is named.
 use Prim.Native.Nat.{ℕ, zero, suc, _+_, _-_, _/_, _%_}
-use mathlib.Core.Bool.{Bool, true, false, cond}
+use mathlib.Core.Bool.{Bool, true, false, cond, _||_}
 use mathlib.Core.Option.{Option, none, some, Option·getD}
 use lib.Dec.{ltb, eqb}
 use Rattle.rules.specs.Settings.{Settings, circle}
@@ -11,18 +11,20 @@ use Rattle.rules.specs.Call.Place.{in-frame, in-archive}
 use Rattle.rules.specs.Call.Change.{WRITE, MARK, ROLLBACK, ADVANCE}
 use Rattle.rules.specs.Call.Act.{READ, LOOK, CHANGE}
 use Rattle.rules.specs.Registers.{Registers, movedTo}
-use Rattle.rules.specs.Seen.{Seen, further, count, needs}
+use Rattle.rules.specs.Seen.{Seen, further, any, count, needs}
 
 -- The stack of mark frames and the archive. A frame is named by the marks back from CMF, 0 for CMF itself, so that the circle
--- does not show. `frame j l` is Stack[l, j] where the written bit WB[l, j] is set, and none where it is not.
+-- does not show. `frame j l` is Stack[l, j] where the written bit WB[l, j] is set, and none where it is not. `collected l`: ADVANCE has copied a
+-- version of the line to the archive (request 2.3: "`a` is left for lines that were collected").
 pub record Figure : Type 0 where
   pub live : ℕ
   pub frame : ℕ → ℕ → Option Line
   pub archive : Memory
+  pub collected : ℕ → Bool
 
 -- The same figure with other frames.
 abbrev pub withFrames : (live : ℕ) → (ℕ → ℕ → Option Line) → Figure → Figure
-withFrames live frame f = record { live = live; frame = frame; archive = f .archive }
+withFrames live frame f = record { live = live; frame = frame; archive = f .archive; collected = f .collected }
 
 unfoldable pub isWritten : Option Line → Bool
 isWritten none = false
@@ -54,9 +56,13 @@ mrv f l = versionIn (f .live) (λ j. f .frame j l) (f .archive l)
 unfoldable pub omrv : Figure → ℕ → ℕ → Line
 omrv f k l = versionIn k (λ j. f .frame (f .live - k + j) l) (f .archive l)
 
+-- Whether that frame exists.
+unfoldable pub hasOmrv : Figure → ℕ → ℕ → Bool
+hasOmrv f k l = any k (λ j. isWritten (f .frame (f .live - k + j) l))
+
 -- INIT: "CMF:=0; OMF:=0; WB[ln,fr]:=0; for all ln and fr"; and document 01's "archive all zero, one live frame".
 unfoldable pub initial : Figure
-initial = record { live = 1; frame = λ j l. none; archive = λ l. zeros }
+initial = record { live = 1; frame = λ j l. none; archive = λ l. zeros; collected = λ l. false }
 
 -- WRITE: "if (WB[A.Line,CMF] = 0) then Stack[A.Line,CMF] := Stack[A.Line,MRV]; end-if Stack[A.Word,CMF] := D;
 -- WB[A.Line,CMF] := 1;"
@@ -84,6 +90,7 @@ figureStep (CHANGE (ADVANCE k)) r f =
       live = f .live - k;
       frame = λ j l. cond (ltb j (f .live - k)) (f .frame j l) none;
       archive = omrv f k;
+      collected = λ l. hasOmrv f k l || f .collected l;
     }
 
 -- The registers after an accepted act: the stack "is implemented as a circular buffer", in document 01 "F frames used in a circle".
@@ -104,4 +111,5 @@ figureSeen s f =
       current = needs (λ l. isWritten (f .frame 0 l));
       latest = mrv f;
       origin = λ l. foundIn (f .live) (λ j. isWritten (f .frame j l));
+      touched = λ l. any (f .live) (λ j. isWritten (f .frame j l)) || f .collected l;
     }

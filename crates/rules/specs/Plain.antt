@@ -24,10 +24,11 @@ Group = List Write
 
 -- "The plain store of demand 3 holds the settings L, F and P and the surviving history." "The surviving history is a base of
 -- 16 × L bytes and a list of groups of writes." The groups stand newest first: "Its groups are the live frames, the last one
--- CMF."
+-- CMF." Request 2.3: "The base of the surviving history therefore holds, for each line, whether it was ever written."
 pub record Plain : Type 0 where
   pub settings : Settings
   pub base : Memory
+  pub collected : ℕ → Bool
   pub groups : List Group
 
 -- A write played onto a memory: it changes the line in which it lies.
@@ -49,7 +50,13 @@ unfoldable pub touches : Group → ℕ → Bool
 touches [] l = false
 touches (w ∷ g) l = eqb (lineOf (w .address)) l || touches g l
 
--- "READ's origin is the count of groups after the last one that writes the line, or the archive if none does."
+-- Some group of a list has such a write.
+unfoldable pub touchedIn : List Group → ℕ → Bool
+touchedIn [] l = false
+touchedIn (g ∷ gs) l = touches g l || touchedIn gs l
+
+-- "READ's origin is the count of groups after the last one that writes the line, or the archive if none does": where the version lies. That READ names a
+-- line empty goes by `touched` (request 2.3).
 unfoldable pub originIn : List Group → ℕ → Place
 originIn [] l = in-archive
 originIn (g ∷ gs) l = cond (touches g l) (in-frame 0) (further (originIn gs l))
@@ -74,15 +81,17 @@ plainSeen p =
       current = needs (touches (newest (p .groups)));
       latest = playAll (p .groups) (p .base);
       origin = originIn (p .groups);
+      touched = λ l. touchedIn (p .groups) l || p .collected l;
     }
 
 -- The same store with other groups.
 abbrev pub withGroups : List Group → Plain → Plain
-withGroups gs p = record { settings = p .settings; base = p .base; groups = gs }
+withGroups gs p = record { settings = p .settings; base = p .base; collected = p .collected; groups = gs }
 
--- "RESET gives a zero base and one empty group." "An accepted RESET takes its settings and starts the history anew."
+-- "RESET gives a zero base", no line of which was ever written, "and one empty group." "An accepted RESET takes its settings and starts the
+-- history anew."
 unfoldable pub fresh : Settings → Plain
-fresh s = record { settings = s; base = λ l. zeros; groups = [] ∷ [] }
+fresh s = record { settings = s; base = λ l. zeros; collected = λ l. false; groups = [] ∷ [] }
 
 -- "WRITE adds to the last group". There is always one: RESET opens it, and by refusal 11 a rollback or an advance leaves one.
 unfoldable pub addWrite : Write → List Group → List Group
@@ -90,7 +99,8 @@ addWrite w [] = []
 addWrite w (g ∷ gs) = (w ∷ g) ∷ gs
 
 -- "MARK adds an empty group, ROLLBACK(k) drops the last k groups, ADVANCE(k) plays the first k groups onto the base", "and frees
--- them"; "the other calls change nothing."
+-- them"; "the other calls change nothing." A line that is played onto the base is written there from then on (request 2.3), and "taking back a
+-- line's only write makes it empty again".
 unfoldable pub plainStep : Act → Plain → Plain
 plainStep (READ w a) p = p
 plainStep (LOOK q) p = p
@@ -101,6 +111,7 @@ plainStep (CHANGE (ADVANCE k)) p =
     record {
       settings = p .settings;
       base = playAll (drop (length (p .groups) - k) (p .groups)) (p .base);
+      collected = λ l. touchedIn (drop (length (p .groups) - k) (p .groups)) l || p .collected l;
       groups = take (length (p .groups) - k) (p .groups);
     }
 
@@ -112,14 +123,15 @@ Each P (x ∷ xs) = P x × Each P xs
 abbrev pub Acceptable : Settings → Write → Type 0
 Acceptable s w = writeRefusal s (w .width) (w .address) (w .value) 0 ≡ 0
 
--- A history that calls can have left: a group for each live frame, accepted writes alone, a base of 16 × L bytes, and no more pages
--- needed than there are.
+-- A history that calls can have left: a group for each live frame, accepted writes alone, a base of 16 × L bytes, zero where it was never
+-- written, and no more pages needed than there are.
 pub record Surviving (p : Plain) : Type 0 where
   pub some-group : 0 < length (p .groups)
   pub in-circle : length (p .groups) ≤ circle (p .settings)
   pub writes : Each (Each (Acceptable (p .settings))) (p .groups)
   pub base-line : (l : ℕ) → IsLine (p .base l)
-  pub base-lines : (l : ℕ) → p .settings .lines ≤ l → p .base l ≡ zeros
+  pub collected-lines : (l : ℕ) → p .settings .lines ≤ l → p .collected l ≡ false
+  pub base-empty : (l : ℕ) → p .collected l ≡ false → p .base l ≡ zeros
   pub pages : plainSeen p .pages ≤ p .settings .pages
 
 -- "From these it decides every refusal, the first in order; 5 never comes."

@@ -21,8 +21,8 @@ use Rattle.rules.specs.Figure3.{Cache, WellCache, emptyCache, holds, cac
 use Rattle.rules.specs.Figure2.{Figure, initial, figureStep, figureSeen, registersStep}
 
 -- A figure that some surviving history draws, what document 01's "storage that meets it answers as some surviving history does" asks:
--- a live frame and no more of them than there are, no version outside the live frames and the L lines, 16 bytes in each line, nothing
--- in the archive past the L lines, and no more pages needed than there are.
+-- a live frame and no more of them than there are, no version outside the live frames and the L lines, 16 bytes in each line, no line
+-- collected past the L lines, nothing in the archive of a line that was not (request 2.3), and no more pages needed than there are.
 pub record WellFigure (s : Settings) (f : Figure) : Type 0 where
   pub some-live : 0 < f .live
   pub in-circle : f .live ≤ circle s
@@ -30,7 +30,8 @@ pub record WellFigure (s : Settings) (f : Figure) : Type 0 where
   pub only-lines : (j l : ℕ) → s .lines ≤ l → f .frame j l ≡ none
   pub line : (j l : ℕ) (x : Line) → f .frame j l ≡ some x → IsLine x
   pub archive-line : (l : ℕ) → IsLine (f .archive l)
-  pub archive-lines : (l : ℕ) → s .lines ≤ l → f .archive l ≡ zeros
+  pub collected-lines : (l : ℕ) → s .lines ≤ l → f .collected l ≡ false
+  pub archive-empty : (l : ℕ) → f .collected l ≡ false → f .archive l ≡ zeros
   pub pages : figureSeen s f .pages ≤ s .pages
 
 -- An answer without its values: its form, and the refusal or 0 in it.

@@ -8,7 +8,7 @@ use Rattle.rules.specs.Call.{Act, Place, Answer}
 use Rattle.rules.specs.Call.Look.{LINE, LINE-REFUSAL, COUNTS}
 use Rattle.rules.specs.Call.Act.{READ, LOOK, CHANGE}
 use Rattle.rules.specs.Call.Place.{in-frame, in-archive}
-use Rattle.rules.specs.Call.Origin.{from-cache, from}
+use Rattle.rules.specs.Call.Origin.{from-cache, from, empty}
 use Rattle.rules.specs.Call.Answer.{outcome, reading, lending, counting}
 
 pub record Seen : Type 0 where
@@ -22,6 +22,8 @@ pub record Seen : Type 0 where
   pub latest : ℕ → Line
   -- by line, where that version lies
   pub origin : ℕ → Place
+  -- by line, whether a surviving write has touched it (request 2.3)
+  pub touched : ℕ → Bool
 
 -- A version that lies one frame further back.
 unfoldable pub further : Place → Place
@@ -49,11 +51,13 @@ unfoldable pub needs : (ℕ → Bool) → ℕ → Bool
 needs written block = any 8 (λ i. written (block * 8 + i))
 
 -- The answer to an accepted act; held says which lines Figure 3's cache holds. "Only an accepted READ names the cache as
--- origin instead, just where demand 2's cache .. holds its line" (demand 3). "LINE's companion gives 0, COUNTS the groups and
--- the pages needed".
+-- origin instead, just where demand 2's cache .. holds its line and no later paper names another origin" (demand 3). "From this release a read
+-- whose line no surviving write has touched gives value 0 and origin `e`, cached or not" (request 2.3). "LINE's companion gives 0, COUNTS the
+-- groups and the pages needed".
 unfoldable pub accepted : Seen → (ℕ → Bool) → Act → Answer
 accepted v held (READ w a) =
-    reading 0 (valueAt w (offsetOf a) (v .latest (lineOf a))) (cond (held (lineOf a)) from-cache (from (v .origin (lineOf a))))
+    let l = lineOf a in
+    reading 0 (valueAt w (offsetOf a) (v .latest l)) (cond (v .touched l) (cond (held l) from-cache (from (v .origin l))) empty)
 accepted v held (LOOK (LINE l)) = lending (v .latest l)
 accepted v held (LOOK (LINE-REFUSAL l)) = outcome 0
 accepted v held (LOOK COUNTS) = counting 0 (v .live) (v .pages)

@@ -1,6 +1,6 @@
 -- The settings of a store, their limits, and the size of each piece of lent memory.
 -- Quotations are of document 01 unless another source is named.
-use Prim.Native.Nat.{ℕ, _*_, _/_, _%_}
+use Prim.Native.Nat.{ℕ, _+_, _*_, _/_, _%_}
 use mathlib.Core.Bool.{Bool, _&&_}
 use lib.Dec.{leb, eqb}
 
@@ -22,7 +22,7 @@ within s =
     && (leb 1 (s .pages) && leb (s .pages) 4096)
 
 -- A number for each piece of lent memory: written bits in groups of sixteen with their tag, the rollback history,
--- the page table and the pages' owners beside the archive and the pool.
+-- the page table and the pages' owners, with the collected lines' flags behind them (request 2.3), beside the archive and the pool.
 pub record Pieces : Type 0 where
   pub archive : ℕ
   pub pool : ℕ
@@ -33,7 +33,7 @@ pub record Pieces : Type 0 where
 
 -- How many elements of each piece a store with these settings needs: "The archive is a lent memory of 16 × L bytes beside
 -- the pool of 128 × P bytes"; a group for 16 frames of a line; a table entry for each frame and block of 8 lines ("A page
--- holds 8 neighbouring lines of one frame"); an owner for each page; a history entry for each "8-bit tag".
+-- holds 8 neighbouring lines of one frame"); an owner for each page and a flag for each line; a history entry for each "8-bit tag".
 unfoldable pub elements : Settings → Pieces
 elements s =
     record {
@@ -41,7 +41,7 @@ elements s =
       pool = 128 * s .pages;
       groups = s .frames / 16 * s .lines;
       table = s .frames * (s .lines / 8);
-      owners = s .pages;
+      owners = s .pages + s .lines;
       history = 256;
     }
 

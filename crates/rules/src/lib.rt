@@ -71,7 +71,7 @@ pub fn sizes(lines: u32, frames: u32, pages: u32) -> Need
         pool: 128 * p,
         groups: 4 * (f / 16 * l),
         table: 2 * (f * (l / 8)),
-        owners: 4 * p,
+        owners: 4 * (p + l),
         history: 512,
     }
 }

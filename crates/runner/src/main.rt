@@ -165,13 +165,13 @@ fn read_all(
     }
 }
 
-// Memory for L = 512, F = 256 and P = 256: 16 × L bytes, 128 × P bytes, F / 16 × L groups, F × L / 8 entries, P owners and 256 tags.
+// Memory for L = 512, F = 256 and P = 256: 16 × L bytes, 128 × P bytes, F / 16 × L groups, F × L / 8 entries, P owners with L flags and 256 tags.
 fn main() {
     let mut archive = [0u8; 8192];
     let mut pool = [0u8; 32768];
     let mut groups = [0u32; 8192];
     let mut table = [0u16; 16384];
-    let mut owners = [0u32; 256];
+    let mut owners = [0u32; 768];
     let mut history = [0u16; 256];
     let mut out = io::large_buffer();
     let read = read_all(

@@ -5,7 +5,7 @@ use mathlib.Core.Logic.{⊎-elim}
 use mathlib.Core.Option.{Option, none, some}
 use mathlib.Core.List.{List, [], _∷_}
 use mathlib.Core.Bool.{Bool, true, false, not, cond, _&&_}
-use Prim.Native.Nat.{ℕ, zero, suc, _*_, _/_, _≤_, _<_}
+use Prim.Native.Nat.{ℕ, zero, suc, _+_, _*_, _/_, _≤_, _<_}
 use native.Mathlib.Nat.{mul-le-mul-right, le-trans}
 use native.Mathlib.Omega.{arith}
 use borrow.Author.Tests.{leb-true, leb-false, le-leb, lt-leb, eqb-true, ne-eqb}
@@ -49,7 +49,7 @@ module _ (s : Settings) (g : Good s) where
   fits-exactly = go (leb (s .lines) 512) refl (leb (s .pages) 256) refl
     where
       go : (a : Bool) → leb (s .lines) 512 ≡ a → (b : Bool) → leb (s .pages) 256 ≡ b
-          → leb (16 * s .lines) 8192 && leb (128 * s .pages) 32768 && leb (s .frames / 16 * s .lines) 8192 && leb (s .frames * (s .lines / 8)) 16384 && leb (s .pages) 256 && leb 256 256 ≡ a && b
+          → leb (16 * s .lines) 8192 && leb (128 * s .pages) 32768 && leb (s .frames / 16 * s .lines) 8192 && leb (s .frames * (s .lines / 8)) 16384 && leb (s .pages + s .lines) 768 && leb 256 256 ≡ a && b
       go true e true d =
           let lines : s .lines ≤ 512 = leb-true (s .lines) 512 e in
           let pages : s .pages ≤ 256 = leb-true (s .pages) 256 d in
@@ -57,15 +57,25 @@ module _ (s : Settings) (g : Good s) where
           && le-leb (128 * s .pages) 32768 (omega arith) i
           && le-leb (s .frames / 16 * s .lines) 8192 (groups-fit lines) i
           && le-leb (s .frames * (s .lines / 8)) 16384 (table-fits lines) i
-          && d i
+          && le-leb (s .pages + s .lines) 768 (omega arith) i
           && true
       go true e false d =
           let lines : s .lines ≤ 512 = leb-true (s .lines) 512 e in
           let pages : 256 < s .pages = leb-false (s .pages) 256 d in
-          λ i. le-leb (16 * s .lines) 8192 (omega arith) i && lt-leb (128 * s .pages) 32768 (omega arith) i && leb (s .frames / 16 * s .lines) 8192 && leb (s .frames * (s .lines / 8)) 16384 && leb (s .pages) 256 && true
+          λ i. le-leb (16 * s .lines) 8192 (omega arith) i
+          && lt-leb (128 * s .pages) 32768 (omega arith) i
+          && leb (s .frames / 16 * s .lines) 8192
+          && leb (s .frames * (s .lines / 8)) 16384
+          && leb (s .pages + s .lines) 768
+          && true
       go false e b d =
           let lines : 512 < s .lines = leb-false (s .lines) 512 e in
-          λ i. lt-leb (16 * s .lines) 8192 (omega arith) i && leb (128 * s .pages) 32768 && leb (s .frames / 16 * s .lines) 8192 && leb (s .frames * (s .lines / 8)) 16384 && leb (s .pages) 256 && true
+          λ i. lt-leb (16 * s .lines) 8192 (omega arith) i
+          && leb (128 * s .pages) 32768
+          && leb (s .frames / 16 * s .lines) 8192
+          && leb (s .frames * (s .lines / 8)) 16384
+          && leb (s .pages + s .lines) 768
+          && true
 
 -- "It answers 6 exactly for otherwise good settings with L above 512 or P above 256."
 pub six-exactly : (asked : Settings) → askedRefusal runnerLent asked ≡ unless (within asked) 4 (unless (leb (asked .lines) 512 && leb (asked .pages) 256) 6 0)

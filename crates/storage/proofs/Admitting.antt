@@ -2,7 +2,7 @@
 use mathlib.Core.Path.{_≡_, refl, sym, _∙_, ap, ap₂}
 use mathlib.Core.Bool.{Bool, true, false, cond, _&&_, and-true, and-false}
 use mathlib.Core.List.{List}
-use Prim.Native.Nat.{ℕ, _*_, _/_, _≤_, _<_, min}
+use Prim.Native.Nat.{ℕ, _+_, _*_, _/_, _≤_, _<_, min}
 use native.Mathlib.Omega.{arith}
 use borrow.Author.Tests.{le-leb, leb-true, lt-ltb, le-ltb}
 use lib.Dec.{ltb}
@@ -18,6 +18,7 @@ use Rattle.rules.proofs.Chain.{passed}
 use Rattle.rules.proofs.Registers.{Fits, fits-facts, live-some, live-at-most}
 use Rattle.frames.specs.Circle.{Turn}
 use Rattle.written.specs.Bits.{writtenOf, AsksWritten}
+use Rattle.pages.specs.Flags.{AsksFlag}
 use Rattle.pages.specs.Table.{AsksTable}
 use Rattle.pages.specs.Ring.{AsksRing}
 use Rattle.versions.specs.Newest.{AsksNewest}
@@ -76,7 +77,7 @@ not-covers n p k = go (covers n p) refl
 covers-enough : (s : Settings) (p : Pieces) → covers (inElements (sizesOf s)) p ≡ enough s p
 unfolding covers sizesOf bytes elements
 covers-enough s p =
-    simp (quarter (s .frames / 16 * s .lines), half (s .frames * (s .lines / 8)), quarter (s .pages))
+    simp (quarter (s .frames / 16 * s .lines), half (s .frames * (s .lines / 8)), quarter (s .pages + s .lines))
   where
     quarter : (x : ℕ) → 4 * x / 4 ≡ x
     quarter x = omega arith
@@ -199,6 +200,9 @@ module _ (s : Registers) (p : Pieces) (r : Room s p) where
   pub room-next : Turn (s .settings .frames) (s .cmf) (s .cmf)
   room-next = record { omf-below = r .cmf-below; below = r .cmf-below; few = omega (arith, r .frames-to) }
 
+  pub room-flag : (line : ℕ) → line < s .settings .lines → AsksFlag (s .settings .pages) line (p .owners)
+  room-flag line b = record { pages-few = r .pages-to; line-few = omega (arith, b, r .lines-to); lent = omega (arith, b, r .owners-long) }
+
   pub room-circle : Turn (s .settings .frames) (s .omf) (s .omf)
   room-circle = record { omf-below = r .omf-below; below = r .omf-below; few = omega (arith, r .frames-to) }
 
@@ -223,7 +227,7 @@ module _ (s : Registers) (archive pool owners : ℕ) (groups table history : Lis
       record { lent = room-lent s archive pool (length table) owners groups history r; lines-by = r .lines-by; lines-from = r .lines-from; table-long = r .table-long }
 
   pub room-pages : AsksTable (writtenOf (s .settings .lines) (s .settings .frames) (s .omf) groups history) table × (s .settings .pages ≤ 4096) × (s .settings .pages ≤ owners)
-  room-pages = (room-table, r .pages-to, r .owners-long)
+  room-pages = (room-table, r .pages-to, omega (arith, r .owners-long))
 
 module _ (s : Registers) (owners : ℕ) (archive pool groups table history : List ℕ)
     (r : Room s (record { archive = length archive; pool = length pool; groups = length groups; table = length table; owners = owners; history = length history })) where
@@ -248,7 +252,7 @@ module _ (s : Registers) (p : Pieces) (r : Room s p) (first used : ℕ) where
         first-below = start-below first (s .settings .pages) (omega (arith, r .pages-from));
         used-few = omega arith;
         pages-few = r .pages-to;
-        owners-long = r .owners-long;
+        owners-long = omega (arith, r .owners-long);
         omf-below = r .omf-below;
         frames-few = omega (arith, r .frames-to);
       }

@@ -34,7 +34,7 @@ use Rattle.cache.specs.Shown.{lineIn, shown}
 use Rattle.versions.specs.declared.Version.{Version}
 use Rattle.versions.specs.Newest.{pageOf, newestOf}
 use Rattle.wellformed.specs.Decision.{Decides}
-use Rattle.wellformed.specs.Parts.{RecentIn, Bytes, AsksBits, AsksRecent}
+use Rattle.wellformed.specs.Parts.{RecentIn, WellArchive, Bytes, AsksBits, AsksRecent}
 use Rattle.wellformed.proofs.Deciding.{passes}
 use Rattle.storage.specs.Storage.{Storage, settingsIn, registersIn, liveIn, lengthsIn, writtenIn, indexBack, versionAt, frameIn, archiveIn, latestIn, newestFrame, WellStore, store}
 use Rattle.storage.specs.Admit.{admitted, Room}
@@ -98,9 +98,9 @@ module _ (x : Storage) (z : admittedIn x 0 ≡ 0) where
   room = admitted-room _ _ _ 0 refl z
 
   -- Lent bytes make lines.
-  archive-lines : Bytes (16 * x .state .registers .lines) (x .memory .archive) → (l : ℕ) → IsLine (archiveIn x l)
+  collected-lines : Bytes (16 * x .state .registers .lines) (x .memory .archive) → (l : ℕ) → IsLine (archiveIn x l)
   unfolding archiveIn elements initial
-  archive-lines bytes l = go (decLt l (x .state .registers .lines))
+  collected-lines bytes l = go (decLt l (x .state .registers .lines))
     where
       go : Dec (l < x .state .registers .lines) → IsLine (archiveIn x l)
       go (yes b) =
@@ -157,11 +157,12 @@ module _ (x : Storage) (z : admittedIn x 0 ≡ 0) (live : ℕ) (counted : live �
       let n = newest-is (well-findable x q) (heldLine (x .state .cache) e) b in
       (b, c .0 ∙ sym (n .0), c .1 ∙ sym (n .1))
 
-  pub well-decided : (b p c r : Bool) → Decides b (WellBits (writtenIn x) (x .state .registers .tag) live) → not b ≡ false
+  pub well-decided : (b p c k r : Bool) → Decides b (WellBits (writtenIn x) (x .state .registers .tag) live) → not b ≡ false
       → Decides p (WellRing (writtenIn x) (x .state .registers .pages) (x .state .registers .first) (x .state .registers .used) (x .memory .table) (x .memory .owners))
       → not p ≡ false → Decides c (WellCache (settingsOf (x .state .registers .lines) 0 0) (shown (x .state .cache))) → not c ≡ false
+      → Decides k (WellArchive (x .state .registers .lines) (x .state .registers .pages) (x .memory .archive) (x .memory .owners)) → not k ≡ false
       → Bytes (16 * x .state .registers .lines) (x .memory .archive) → Bytes (128 * x .state .registers .pages) (x .memory .pool) → Sized (x .state .cache) → Decides r RecentAll → Decides r (WellStore x)
-  well-decided b p c r bits bits-pass pages pages-pass cache cache-pass archive pool sized recent =
+  well-decided b p c k r bits bits-pass pages pages-pass cache cache-pass zeroed zeroed-pass archive pool sized recent =
       record { only = λ e. well (recent .only e); always = λ q. recent .always (recent-part q) }
     where
       entries : WellCache (settingsOf (x .state .registers .lines) 0 0) (shown (x .state .cache))
@@ -177,9 +178,10 @@ module _ (x : Storage) (z : admittedIn x 0 ≡ 0) (live : ℕ) (counted : live �
             long = admitted-long x z;
             bits = subst (WellBits (writtenIn x) (x .state .registers .tag)) counted (passes b bits bits-pass);
             pages = findable .pages;
+            archive-empty = passes k zeroed zeroed-pass;
             sized = sized;
             version-line = version-lines x z findable pool;
-            archive-line = archive-lines x z archive;
+            archive-line = collected-lines x z archive;
             entries = record { first = entries .first; second = entries .second; once = entries .once };
             coherent = λ e v.
                 let a = all e v in

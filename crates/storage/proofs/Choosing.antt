@@ -142,7 +142,7 @@ module _ (x : Storage) (q : WellStore x) (l : ℕ) (b : l < x .state .registers 
 
   owners-long : x .state .registers .pages ≤ length (x .memory .owners)
   unfolding elements
-  owners-long = lent-long x (q .long) .owners
+  owners-long = omega (arith, lent-long x (q .long) .owners)
 
   pub asks-table : AsksTable w (x .memory .table)
   unfolding elements

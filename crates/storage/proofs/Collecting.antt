@@ -1,7 +1,7 @@
 -- ADVANCE keeps its promise. Assumes nothing.
 use mathlib.Core.Path.{_≡_, refl, sym, _∙_, ap, ap₂, subst}
 use mathlib.Core.Logic.{_≢_}
-use mathlib.Core.Bool.{Bool, true, cond, _&&_}
+use mathlib.Core.Bool.{Bool, true, cond, _&&_, _||_}
 use mathlib.Core.Option.{none, some}
 use mathlib.Core.List.{List}
 use Prim.Native.Nat.{ℕ, _+_, _-_, _*_, _/_, _%_, _≤_, _<_}
@@ -19,9 +19,10 @@ use Rattle.rules.specs.Call.Answer.{outcome}
 use Rattle.rules.specs.Call.Change.{ADVANCE}
 use Rattle.rules.specs.Call.Act.{CHANGE}
 use Rattle.rules.specs.Call.Call.{ON}
-use Rattle.rules.specs.Seen.{accepted, dropped}
+use Rattle.rules.specs.Seen.{accepted, dropped, any}
+use Rattle.rules.proofs.Count.{any-same}
 use Rattle.rules.specs.Refusal.{markedRefusal, refusal, actRefusal, factsBy}
-use Rattle.rules.specs.Figure2.{figureStep, registersStep, omrv, versionIn, foundIn, isWritten}
+use Rattle.rules.specs.Figure2.{figureStep, registersStep, omrv, hasOmrv, versionIn, foundIn, isWritten}
 use Rattle.rules.specs.Figure3.{WellCache, cacheStep}
 use Rattle.rules.specs.Promise.{Promise, Followed, settingsFor, WellFigure}
 use Rattle.rules.specs.Registers as rules
@@ -38,17 +39,19 @@ use Rattle.written.proofs.Finding.{version-back}
 use Rattle.pages.specs.Lines.{pageLine, archiveLine}
 use Rattle.pages.specs.Ring.{nthPage, indexAt, Splits, WellRing}
 use Rattle.pages.proofs.Keeping.{advanced-ring}
-use Rattle.cache.specs.Steps.{archiveFrame, frameAfter, framesAfter, withOrigins, collected}
+use Rattle.cache.specs.Steps.{archiveFrame, frameAfter, framesAfter, withOrigins, advancedCache}
 use Rattle.cache.specs.Shown.{shown}
-use Rattle.cache.proofs.Frames.{collected-sized, collected-shown, collected-all}
+use Rattle.cache.proofs.Frames.{advanced-sized, advanced-shown, advanced-all}
 use Rattle.versions.specs.Newest.{pageOf}
-use Rattle.versions.specs.Steps.{foldedPages, clearedPages}
+use Rattle.versions.specs.Steps.{foldedPages, flaggedPages, clearedPages}
 use Rattle.versions.proofs.Folding.{index-frame-few}
-use Rattle.versions.proofs.Archived.{PagesFolded, pages-folded}
-use Rattle.versions.proofs.Walking.{folded-line}
+use Rattle.versions.proofs.Archived.{PagesFolded, pages-folded, hit}
+use Rattle.versions.proofs.Flagged.{PagesFlagged, pages-flagged}
+use Rattle.versions.proofs.Walking.{folded-line, any-collected}
+use Rattle.pages.proofs.Flagging.{ring-owners}
 use Rattle.versions.proofs.Cleared.{PagesCleared, pages-cleared, pages-collected}
 use Rattle.storage.specs.declared.Registers.{Registers}
-use Rattle.storage.specs.Storage.{Storage, stateOf, storageOf, memoryOf, startIn, settingsIn, registersIn, lengthsIn, pastIn, Recent, Coherent, liveIn, writtenIn, indexBack, frameIn, archiveIn, versionAt, latestIn, frameNumber, newestFrame, WellStore, store}
+use Rattle.storage.specs.Storage.{Storage, stateOf, storageOf, memoryOf, startIn, settingsIn, registersIn, lengthsIn, pastIn, Recent, Coherent, liveIn, writtenIn, indexBack, frameIn, archiveIn, versionAt, collectedIn, latestIn, frameNumber, newestFrame, WellStore, store}
 use Rattle.storage.specs.Steps.{FirstPages, advancedRegisters, advancedState}
 use Rattle.storage.specs.Admit.{admitted, Room}
 use Rattle.storage.specs.Contracts.{Advances}
@@ -57,11 +60,11 @@ use Rattle.storage.proofs.Limits.{Limits, limits, lent-long}
 use Rattle.storage.proofs.Admitting.{room-of}
 use Rattle.storage.proofs.Chains.{frames-room}
 use Rattle.storage.proofs.Looking.{admittedIn, told-in, turned-down, let-through}
-use Rattle.storage.proofs.Figures.{AlikeAt, frames-alike, frame-at, frame-live, archive-past, well-figure, step-versions, step-archive}
+use Rattle.storage.proofs.Figures.{AlikeAt, frames-alike, frame-at, frame-live, archive-past, collected-past, collected-at, well-figure, step-versions, step-archive, figure-archive}
 use Rattle.storage.proofs.Past.{lowered-long, lowered-past}
 use Rattle.storage.proofs.Numbers.{below-frame, below-archive}
 use Rattle.storage.proofs.Reading.{well-findable, version-content}
-use Rattle.storage.proofs.Rows.{Within, found-within, version-same, split-version, first, first-found}
+use Rattle.storage.proofs.Rows.{Within, found-within, version-same, split-version, first, first-found, any-back, written-some}
 
 -- What it leaves, and that it stays within the lent memory.
 module _ (x : Storage) (k gone : ℕ) where
@@ -72,8 +75,8 @@ module _ (x : Storage) (k gone : ℕ) where
   collected-to =
       storageOf (advancedState (x .state) k gone)
       (foldedPages (writtenIn x) (x .state .registers .pages) start (x .memory .pool) (x .memory .owners) gone (x .memory .archive)) (x .memory .pool)
-      (clearedPages (x .state .registers .lines) (x .state .registers .pages) start (x .memory .owners) gone (x .memory .groups)) (x .memory .table) (x .memory .owners)
-      (lowered k (x .memory .history))
+      (clearedPages (x .state .registers .lines) (x .state .registers .pages) start (x .memory .owners) gone (x .memory .groups)) (x .memory .table)
+      (flaggedPages (writtenIn x) (x .state .registers .pages) start (x .memory .owners) gone) (lowered k (x .memory .history))
 
   module _ (r : Room (registersIn (x .state)) (lengthsIn (x .memory))) (below : k ≤ x .state .registers .frames) (found : FirstPages (x .state .registers) (x .memory .owners) k gone) where
     folded-in : PagesFolded (writtenIn x) (x .state .registers .pages) start (x .memory .owners) (x .memory .pool) gone (x .memory .archive) (collected-to .memory .archive)
@@ -81,6 +84,9 @@ module _ (x : Storage) (k gone : ℕ) where
     folded-in =
         pages-folded (writtenIn x) (x .state .registers .pages) start (x .memory .owners) (x .memory .pool) gone (x .memory .archive) (r .lines-by) (r .archive-long)
         (start-below (x .state .registers .first) (x .state .registers .pages) (omega (arith, r .pages-from))) (r .pool-long)
+
+    flagged-in : PagesFlagged (writtenIn x) (x .state .registers .pages) start (x .memory .owners) gone (collected-to .memory .owners)
+    flagged-in = pages-flagged (writtenIn x) (x .state .registers .pages) start (x .memory .owners) gone (r .lines-by) (r .owners-long)
 
     cleared-in : PagesCleared (writtenIn x) (r .lines-by) (r .frames-by) (x .state .registers .pages) start (x .memory .owners) gone (x .memory .groups) (collected-to .memory .groups)
     unfolding elements indexAt
@@ -95,7 +101,7 @@ module _ (x : Storage) (k gone : ℕ) where
           pool = length (x .memory .pool);
           groups = cleared-in .long i;
           table = length (x .memory .table);
-          owners = length (x .memory .owners);
+          owners = flagged-in .kept .long i;
           history = lowered-long k (x .memory .history) i;
         }
 
@@ -103,7 +109,7 @@ module _ (x : Storage) (k gone : ℕ) where
     unfolding elements
     past-kept = λ i.
         memoryOf (folded-in .past i) (drop (128 * x .state .registers .pages) (x .memory .pool)) (cleared-in .past i)
-        (drop (x .state .registers .frames * (x .state .registers .lines / 8)) (x .memory .table)) (drop (x .state .registers .pages) (x .memory .owners)) (lowered-past k (x .memory .history) i)
+        (drop (x .state .registers .frames * (x .state .registers .lines / 8)) (x .memory .table)) (flagged-in .kept .past i) (lowered-past k (x .memory .history) i)
 
 module _ (x : Storage) (q : WellStore x) (k gone : ℕ) (some-k : 0 < k) (low : k ≤ liveIn (x .state) - 1) (found : FirstPages (x .state .registers) (x .memory .owners) k gone) where
   abbrev n : ℕ
@@ -211,11 +217,28 @@ module _ (x : Storage) (q : WellStore x) (k gone : ℕ) (some-k : 0 < k) (low : 
     where
       go : Dec (l < x .state .registers .lines) → archiveIn new l ≡ versionIn k (λ j. frameIn x (kept + j) l) (archiveIn x l)
       go (yes b) = archive-folded l b
-      go (no b) = archive-past new l (omega arith) ∙ sym (next-well .archive-lines l (omega arith))
+      go (no b) = archive-past new l (omega arith) ∙ sym (next-well .archive-empty l (next-well .collected-lines l (omega arith)))
+
+  -- ---- flags: a line is collected if some frame that goes has it
+  collected-flag : (l : ℕ) → collectedIn new l ≡ (hasOmrv (store .figure x) k l || collectedIn x l)
+  unfolding hasOmrv figureStep advancedState
+  collected-flag l = go (decLt l (x .state .registers .lines))
+    where
+      go : Dec (l < x .state .registers .lines) → collectedIn new l ≡ (any k (λ j. isWritten (frameIn x (kept + j) l)) || collectedIn x l)
+      go (yes b) =
+          collected-at new l b
+          ∙ (flagged-in x k gone room (omega (arith, below)) found .line l b
+          ∙ ap₂ (λ (s t : Bool). s || t)
+          (ap (λ (f : ℕ). any gone (hit (writtenIn x) (x .state .registers .pages) f (x .memory .owners) l)) started
+          ∙ (any-collected (writtenIn x) (q .bits .lent) (x .state .registers .pages) (x .state .registers .first) (x .state .registers .used) gone k
+          (omega (arith, below)) (x .memory .table) (x .memory .owners) (q .pages) parts (lim .good .lines-by) l b
+          ∙ (sym (any-back k (row l b)) ∙ sym (any-same k (λ j. isWritten (frameIn x (kept + j) l)) (λ j. row l b (k - 1 - j)) (λ j h. ap isWritten (oldest l b j h) ∙ written-some (row l b (k - 1 - j)) _)))))
+          (sym (collected-at x l b)))
+      go (no b) = collected-past new l (omega arith) ∙ sym (next-well .collected-lines l (omega arith))
 
   collected-figure : store .figure new ≡ figureStep (CHANGE (ADVANCE k)) (store .registers x) (store .figure x)
   unfolding figureStep
-  collected-figure = λ i. record { live = live i; frame = λ j l. collected-frame j l i; archive = λ l. collected-archive l i }
+  collected-figure = λ i. record { live = live i; frame = λ j l. collected-frame j l i; archive = λ l. collected-archive l i; collected = λ l. collected-flag l i }
 
   -- ---- cache: every line is found as before, and in the archive where its frame is collected
   collected-latest : (l : ℕ) → latestIn new l ≡ latestIn x l
@@ -254,12 +277,12 @@ module _ (x : Storage) (q : WellStore x) (k gone : ℕ) (some-k : 0 < k) (low : 
   collected-coherent : Coherent new
   unfolding advancedState
   collected-coherent =
-      collected-all (x .state .cache) (q .sized) (x .state .registers .frames) (x .state .registers .omf) k (Recent x) (Recent new) (q .coherent)
+      advanced-all (x .state .cache) (q .sized) (x .state .registers .frames) (x .state .registers .omf) k (Recent x) (Recent new) (q .coherent)
       (λ l g b c. (c .0 ∙ sym (collected-latest l), ap (frameAfter (x .state .registers .frames) (x .state .registers .omf) k) (c .1) ∙ collected-newest l))
 
   collected-cache : shown (new .state .cache) ≡ shown (x .state .cache)
   unfolding advancedState
-  collected-cache = collected-shown (x .state .cache) (q .sized) (x .state .registers .frames) (x .state .registers .omf) k
+  collected-cache = advanced-shown (x .state .cache) (q .sized) (x .state .registers .frames) (x .state .registers .omf) k
 
   -- the pages of the frames that stay
   collected-pages : WellRing (writtenIn new) (x .state .registers .pages) (new .state .registers .first) (new .state .registers .used) (x .memory .table) (x .memory .owners)
@@ -280,8 +303,11 @@ module _ (x : Storage) (q : WellStore x) (k gone : ℕ) (some-k : 0 < k) (low : 
         fits = facts-fit _ (record { limits = lim .fits .limits; cmf-below = lim .fits .cmf-below; omf-below = mod-lt _ (omega (arith, below)) });
         long = subst (λ (p : Pieces). enough (settingsIn (x .state)) p ≡ true) (sym (lengths-kept x k gone room (omega (arith, below)) found)) (q .long);
         bits = subst (λ (m : ℕ). WellBits (writtenIn new) (x .state .registers .tag) m) (sym live) (advanced-well (writtenIn x) (q .bits .lent) k below (new .memory .groups) groups-collected (x .state .registers .tag) n (q .bits));
-        pages = collected-pages;
-        sized = collected-sized (x .state .cache) (q .sized) (x .state .registers .frames) (x .state .registers .omf) k;
+        pages =
+            ring-owners (writtenIn new) (x .state .registers .pages) (new .state .registers .first) (new .state .registers .used) (x .memory .table) (x .memory .owners) (new .memory .owners)
+            (flagged-in x k gone room (omega (arith, below)) found .kept .below) collected-pages;
+        archive-empty = figure-archive new _ _ collected-figure next-well;
+        sized = advanced-sized (x .state .cache) (q .sized) (x .state .registers .frames) (x .state .registers .omf) k;
         version-line = step-versions new _ _ collected-figure next-well;
         archive-line = step-archive new _ _ collected-figure next-well;
         entries = subst (WellCache (settingsIn (x .state))) (sym collected-cache) (q .entries);
@@ -316,17 +342,17 @@ module _ (x : Storage) (k a : ℕ) (p : Pieces) (are : p ≡ lengthsIn (x .memor
         let-through x (ON (CHANGE (ADVANCE k))) a told z refl (record { registers = refl; followed = λ q. advanced-followed x q k gone (g .k-some) (omega (arith, g .k-low)) found }) (lengths-kept x k gone (g .room) few found) (past-kept x k gone (g .room) few found)
 
     -- in the form in which the code has the lists, the registers and the cache's frames
-    pub advance-collects : a ≡ 0 → (archive groups history : List ℕ) → archive ≡ collected-to x k gone .memory .archive
-        → groups ≡ collected-to x k gone .memory .groups → history ≡ collected-to x k gone .memory .history
+    pub advance-collects : a ≡ 0 → (archive groups owners history : List ℕ) → archive ≡ collected-to x k gone .memory .archive
+        → groups ≡ collected-to x k gone .memory .groups → owners ≡ collected-to x k gone .memory .owners → history ≡ collected-to x k gone .memory .history
         → (t : Registers) (origins : List ℕ) → t ≡ advancedRegisters (x .state .registers) k gone
         → origins ≡ framesAfter (x .state .registers .frames) (x .state .registers .omf) k (x .state .cache .origins)
-        → Advances x k 0 (storageOf (stateOf t (withOrigins (x .state .cache) origins)) archive (x .memory .pool) groups (x .memory .table) (x .memory .owners) history)
-    unfolding advancedState collected
-    advance-collects z archive groups history ea eg eh t origins e frames =
+        → Advances x k 0 (storageOf (stateOf t (withOrigins (x .state .cache) origins)) archive (x .memory .pool) groups (x .memory .table) owners history)
+    unfolding advancedState advancedCache
+    advance-collects z archive groups owners history ea eg eo eh t origins e frames =
         let same : stateOf t (withOrigins (x .state .cache) origins) ≡ advancedState (x .state) k gone =
         λ i. stateOf (e i) (withOrigins (x .state .cache) (frames i))
         in (
           subst (Promise store (ON (CHANGE (ADVANCE k))) x (outcome 0))
-              (λ i. storageOf (sym same i) (sym ea i) (x .memory .pool) (sym eg i) (x .memory .table) (x .memory .owners) (sym eh i)) (promised z),
-          λ d. record { gone = gone; pages = found; state = same; archive-is = ea; groups-is = eg; history-is = eh },
+              (λ i. storageOf (sym same i) (sym ea i) (x .memory .pool) (sym eg i) (x .memory .table) (sym eo i) (sym eh i)) (promised z),
+          λ d. record { gone = gone; pages = found; state = same; archive-is = ea; groups-is = eg; owners-is = eo; history-is = eh },
         )

@@ -244,7 +244,7 @@ module _ (x : Storage) (wd a v r : ℕ) (let-in : admittedIn x 0 ≡ 0) (own : r
         ((ap (drop (g .frames / 16 * g .lines)) groups-is
         ∙ renewed-either (writtenIn x) (g .tag % 256) l (g .cmf) (λ ys. drop (g .frames / 16 * g .lines) ys ≡ drop (g .frames / 16 * g .lines) (x .memory .groups)) refl
         (written-past (writtenIn x) (g .tag % 256) l (indexOf (g .frames) (g .omf) (g .cmf)) lent below)) i)
-        (drop (g .frames * (g .lines / 8)) (x .memory .table)) (drop (g .pages) (x .memory .owners)) (drop 256 (x .memory .history))
+        (drop (g .frames * (g .lines / 8)) (x .memory .table)) (drop (g .pages + g .lines) (x .memory .owners)) (drop 256 (x .memory .history))
 
     -- What it is on well-formed storage.
     module _ (q : WellStore x) where

@@ -13,7 +13,9 @@ use Rattle.rules.specs.Figure2.{Figure}
 use Rattle.rules.specs.Promise.{WellFigure, Lawful, seenOf}
 use Rattle.written.specs.Bits.{effective}
 use Rattle.pages.specs.Lines.{archiveLine}
-use Rattle.storage.specs.Storage.{Storage, settingsIn, liveIn, writtenIn, indexBack, versionAt, frameIn, archiveIn, WellStore, store}
+use Rattle.pages.specs.Flags.{collectedAt}
+use Rattle.wellformed.specs.Parts.{CollectedOrZero, WellArchive}
+use Rattle.storage.specs.Storage.{Storage, settingsIn, liveIn, writtenIn, indexBack, versionAt, frameIn, archiveIn, collectedIn, WellStore, store}
 use Rattle.storage.proofs.Limits.{limits}
 use Rattle.storage.proofs.Counting.{pages-counted}
 
@@ -72,6 +74,35 @@ pub archive-past : (x : Storage) (l : ℕ) → x .state .registers .lines ≤ l 
 unfolding archiveIn
 archive-past x l h = ap (λ (t : Bool). cond t (archiveLine (x .memory .archive) l) zeros) (le-ltb l (x .state .registers .lines) h)
 
+-- no line past the L lines is collected, and one that is not is zero in the archive
+pub collected-past : (x : Storage) (l : ℕ) → x .state .registers .lines ≤ l → collectedIn x l ≡ false
+unfolding collectedIn
+collected-past x l h = ap (λ (t : Bool). t && collectedAt (x .state .registers .pages) (x .memory .owners) l) (le-ltb l (x .state .registers .lines) h)
+
+pub collected-at : (x : Storage) (l : ℕ) → l < x .state .registers .lines → collectedIn x l ≡ collectedAt (x .state .registers .pages) (x .memory .owners) l
+unfolding collectedIn
+collected-at x l b = ap (λ (t : Bool). t && collectedAt (x .state .registers .pages) (x .memory .owners) l) (lt-ltb l (x .state .registers .lines) b)
+
+archive-at : (x : Storage) (l : ℕ) → l < x .state .registers .lines → archiveIn x l ≡ archiveLine (x .memory .archive) l
+unfolding archiveIn
+archive-at x l b = ap (λ (t : Bool). cond t (archiveLine (x .memory .archive) l) zeros) (lt-ltb l (x .state .registers .lines) b)
+
+archive-zero : (x : Storage) → WellStore x → (l : ℕ) → collectedIn x l ≡ false → archiveIn x l ≡ zeros
+unfolding CollectedOrZero
+archive-zero x q l e = go (decLt l (x .state .registers .lines))
+  where
+    go : Dec (l < x .state .registers .lines) → archiveIn x l ≡ zeros
+    go (yes b) = archive-at x l b ∙ q .archive-empty l b (sym (collected-at x l b) ∙ e)
+    go (no b) = archive-past x l (omega arith)
+
+-- Storage whose figure is well-formed has zeros in its archive where they should be.
+pub figure-archive : (t : Storage) (s : Settings) (f : Figure) → store .figure t ≡ f → WellFigure s f
+    → WellArchive (t .state .registers .lines) (t .state .registers .pages) (t .memory .archive) (t .memory .owners)
+unfolding CollectedOrZero
+figure-archive t s f shows q l b e =
+    sym (archive-at t l b)
+    ∙ (ap (λ (g : Figure). g .archive l) shows ∙ q .archive-empty l (sym (ap (λ (g : Figure). g .collected l) shows) ∙ (collected-at t l b ∙ e)))
+
 pub well-figure : (x : Storage) → WellStore x → WellFigure (settingsIn (x .state)) (store .figure x)
 unfolding seenOf
 well-figure x q =
@@ -83,7 +114,8 @@ well-figure x q =
       only-lines = λ j l h. frame-past x j l h;
       line = q .version-line;
       archive-line = q .archive-line;
-      archive-lines = archive-past x;
+      collected-lines = collected-past x;
+      archive-empty = archive-zero x q;
       pages = subst (λ (n : ℕ). n ≤ x .state .registers .pages) (pages-counted x q) (q .pages .used-few);
     }
 

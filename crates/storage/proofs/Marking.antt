@@ -33,7 +33,7 @@ use Rattle.written.proofs.Keeping.{mark-keeps}
 use Rattle.cache.specs.Entries.{heldLine}
 use Rattle.storage.specs.declared.Registers.{Registers}
 use Rattle.versions.specs.Newest.{pageOf}
-use Rattle.storage.specs.Storage.{Storage, stateOf, settingsIn, registersIn, lengthsIn, liveIn, writtenIn, frameIn, archiveIn, versionAt, latestIn, frameNumber, newestFrame, WellStore, store}
+use Rattle.storage.specs.Storage.{Storage, stateOf, settingsIn, registersIn, lengthsIn, liveIn, writtenIn, frameIn, archiveIn, collectedIn, versionAt, latestIn, frameNumber, newestFrame, WellStore, store}
 use Rattle.storage.specs.Admit.{admitted}
 use Rattle.storage.specs.Steps.{registersWith, markedRegisters, markedState}
 use Rattle.storage.specs.Contracts.{Marks}
@@ -91,9 +91,9 @@ module _ (x : Storage) (q : WellStore x) (room : liveIn (x .state) < x .state .r
   opened-frame (suc j) l = ap (λ (m : ℕ). shape m (suc j) l) live ∙ shape-next j l
 
   opened-figure : store .figure opened ≡ figureStep (CHANGE MARK) (store .registers x) (store .figure x)
-  unfolding figureStep markedState archiveIn
+  unfolding figureStep markedState archiveIn collectedIn
   opened-figure =
-      ap₂ (λ (m : ℕ) (f : ℕ → ℕ → Option Line). record { live = m; frame = f; archive = archiveIn x }) live (fun-ext (λ j. fun-ext (λ l. opened-frame j l)))
+      ap₂ (λ (m : ℕ) (f : ℕ → ℕ → Option Line). record { live = m; frame = f; archive = archiveIn x; collected = collectedIn x }) live (fun-ext (λ j. fun-ext (λ l. opened-frame j l)))
 
   one-more : liveIn (opened .state) ≡ suc n
   one-more = live ∙ add-one n
@@ -125,6 +125,7 @@ module _ (x : Storage) (q : WellStore x) (room : liveIn (x .state) < x .state .r
         long = q .long;
         bits = subst (λ (m : ℕ). WellBits (writtenIn x) (x .state .registers .tag) m) (sym live) (mark-keeps (writtenIn x) (x .state .registers .tag) n (q .bits));
         pages = q .pages;
+        archive-empty = q .archive-empty;
         sized = q .sized;
         version-line = step-versions opened _ _ opened-figure next-well;
         archive-line = step-archive opened _ _ opened-figure next-well;

@@ -1,13 +1,17 @@
 -- Where the newest version of a line stands and what it is: on well-formed storage the code finds what Figure 2 does. Assumes nothing.
-use mathlib.Core.Path.{_≡_, refl, sym, _∙_, ap}
-use mathlib.Core.Bool.{Bool, true, cond}
+use mathlib.Core.Path.{_≡_, refl, sym, _∙_, ap, ap₂}
+use mathlib.Core.Bool.{Bool, true, false, cond, not, _&&_, _||_}
 use mathlib.Core.Option.{none, some}
 use Prim.Native.Nat.{ℕ, _-_, _/_, _<_}
 use native.Mathlib.Omega.{arith}
-use borrow.Author.Tests.{lt-ltb}
+use borrow.Author.Tests.{lt-ltb, eq-eqb, ne-eqb}
+use lib.Dec.{eqb}
 use lib.ListN.{getD}
 use Rattle.rules.specs.Line.{IsLine, zeros}
-use Rattle.rules.specs.Call.Origin.{from-cache, from}
+use Rattle.rules.specs.Call.{Place}
+use Rattle.rules.specs.Call.Place.{in-frame, in-archive}
+use Rattle.rules.specs.Call.Origin.{from-cache, from, empty}
+use Rattle.rules.specs.Seen.{any}
 use Rattle.rules.specs.Registers.{stateFits}
 use Rattle.rules.specs.Figure2.{foundIn, isWritten, figureSeen}
 use Rattle.rules.specs.Figure3.{holds}
@@ -24,21 +28,24 @@ use Rattle.written.proofs.Finding.{backOf, versionOf, found-back, version-back}
 use Rattle.pages.specs.Lines.{archiveLine}
 use Rattle.pages.specs.Table.{placeAt}
 use Rattle.pages.specs.Ring.{WellRing}
+use Rattle.pages.specs.Flags.{collectedAt}
 use Rattle.pages.proofs.Needs.{effective-needed}
 use Rattle.cache.specs.Entries.{found, isHit}
 use Rattle.cache.specs.declared.Entry.{Entry}
 use Rattle.cache.specs.declared.Entry.the-variants.{Hit, Miss}
 use Rattle.cache.specs.Shown.{shown}
+use Rattle.cache.specs.Steps.{archiveFrame}
 use Rattle.cache.proofs.Hits.{hit-shown, found-at}
 use Rattle.versions.specs.declared.Spot.the-variants.{Page, Archive}
 use Rattle.versions.specs.declared.Version.{Version}
-use Rattle.versions.specs.Newest.{pageOf, spotOf, contentOf, numberOf, backIn, originOf, newestOf, latestFrom, latestHeld, latestOf}
+use Rattle.versions.specs.declared.Origin.the-variants as origin
+use Rattle.versions.specs.Newest.{pageOf, spotOf, contentOf, numberOf, backIn, originOf, isEmpty, emptyOr, newestOf, latestFrom, latestHeld, latestOf}
 use Rattle.versions.proofs.Finding.{place-entry}
-use Rattle.storage.specs.Storage.{Storage, registersIn, liveIn, writtenIn, versionAt, frameIn, archiveIn, latestIn, frameNumber, newestFrame, WellStore, store}
+use Rattle.storage.specs.Storage.{Storage, registersIn, liveIn, writtenIn, versionAt, frameIn, archiveIn, collectedIn, latestIn, frameNumber, newestFrame, WellStore, store}
 use Rattle.storage.proofs.Limits.{Limits, limits}
 use Rattle.storage.proofs.Counting.{written-effective}
-use Rattle.storage.proofs.Figures.{frame-at}
-use Rattle.storage.proofs.Rows.{version-same, found-same}
+use Rattle.storage.proofs.Figures.{frame-at, collected-at}
+use Rattle.storage.proofs.Rows.{version-same, found-same, archive-none, frame-some}
 
 -- What the search for a line's newest version asks of storage.
 pub record Findable (x : Storage) : Type 0 where
@@ -158,6 +165,39 @@ module _ (x : Storage) (q : WellStore x) (l : ℕ) (b : l < x .state .registers 
       go Miss d =
           let r = newest-told x (well-findable x q) l b v (e ∙ ap (latestFrom (x .state .cache .origins) (x .state .cache .bytes) _) d) in
           (r .0, r .1, r .2 ∙ sym (ap (λ (t : Bool). cond t from-cache (from (seenOf store x .origin l))) (sym (hit-shown (x .state .cache) l) ∙ ap isHit d)))
+
+  -- The origin named is the cache's or where the version lies, and none where no surviving write has touched the line.
+  pub origin-named : (v : Version) → v .frame ≡ newestFrame x l → originOf (v .origin) ≡ cond (holds (shown (x .state .cache)) l) from-cache (from (seenOf store x .origin l))
+      → originOf (emptyOr (collectedAt (x .state .registers .pages) (x .memory .owners) l) (v .frame) (v .origin))
+      ≡ cond (seenOf store x .touched l) (cond (holds (shown (x .state .cache)) l) from-cache (from (seenOf store x .origin l))) empty
+  unfolding seenOf figureSeen isEmpty emptyOr newestFrame originOf frameNumber
+  origin-named v f o = go (foundIn n row) refl
+    where
+      n : ℕ
+      n = liveIn (x .state)
+
+      row : ℕ → Bool
+      row j = isWritten (frameIn x j l)
+
+      here : Bool
+      here = collectedAt (x .state .registers .pages) (x .memory .owners) l
+
+      go : (place : Place) → foundIn n row ≡ place
+          → originOf (cond (eqb (v .frame) archiveFrame && not here) origin.Empty (v .origin))
+          ≡ cond (any n row || collectedIn x l) (cond (holds (shown (x .state .cache)) l) from-cache (from (foundIn n row))) empty
+      go (in-frame j) e =
+          let lim = limits x (q .fits) in
+          let high = frame-below (x .state .registers .frames) (x .state .registers .omf) (lim .fits .omf-below) (n - 1 - j) in
+          ap originOf (ap (λ (t : Bool). cond (t && not here) origin.Empty (v .origin)) (ne-eqb (v .frame) archiveFrame (λ z. omega (arith, high, z, f, ap (frameNumber (x .state)) e, lim .good .frames-to))))
+          ∙ (o ∙ sym (ap (λ (t : Bool). cond (t || collectedIn x l) (cond (holds (shown (x .state .cache)) l) from-cache (from (foundIn n row))) empty) (frame-some n row j e)))
+      go in-archive e =
+          ap (λ (t : Bool). originOf (cond (t && not here) origin.Empty (v .origin))) (eq-eqb (v .frame) archiveFrame (f ∙ ap (frameNumber (x .state)) e))
+          ∙ (by here
+          ∙ sym (ap₂ (λ (t u : Bool). cond (t || u) (cond (holds (shown (x .state .cache)) l) from-cache (from (foundIn n row))) empty) (archive-none n row e) (collected-at x l b)))
+        where
+          by : (t : Bool) → originOf (cond (not t) origin.Empty (v .origin)) ≡ cond t (cond (holds (shown (x .state .cache)) l) from-cache (from (foundIn n row))) empty
+          by true = o
+          by false = refl
 
   -- It is a line of bytes.
   pub latest-line : IsLine (latestIn x l)

@@ -41,7 +41,7 @@ use Rattle.cache.proofs.Frames.{forgotten-sized, forgotten-shown, forgotten-all
 use Rattle.storage.specs.declared.Registers.{Registers}
 use Rattle.storage.specs.declared.State.{State}
 use Rattle.versions.specs.Newest.{pageOf}
-use Rattle.storage.specs.Storage.{Storage, stateOf, storageOf, memoryOf, settingsIn, registersIn, lengthsIn, Recent, Coherent, liveIn, writtenIn, indexBack, frameIn, archiveIn, versionAt, latestIn, frameNumber, newestFrame, WellStore, store}
+use Rattle.storage.specs.Storage.{Storage, stateOf, storageOf, memoryOf, settingsIn, registersIn, lengthsIn, Recent, Coherent, liveIn, writtenIn, indexBack, frameIn, archiveIn, collectedIn, versionAt, latestIn, frameNumber, newestFrame, WellStore, store}
 use Rattle.storage.specs.Admit.{admitted}
 use Rattle.storage.specs.Steps.{PagesBelow, rolledRegisters, rolledState, RolledTo}
 use Rattle.storage.specs.Contracts.{RollsBack}
@@ -106,9 +106,9 @@ module _ (x : Storage) (q : WellStore x) (k : ℕ) (low : k ≤ liveIn (x .state
       (λ h d b. subst (λ (i : ℕ). AlikeAt dropped-to x i (indexBack (x .state) (k + j)) l) (sym (nearer j)) (rolled-alike (indexBack (x .state) (k + j)) l (omega arith) b))
 
   rolled-figure : store .figure dropped-to ≡ figureStep (CHANGE (ROLLBACK k)) (store .registers x) (store .figure x)
-  unfolding figureStep rolledState archiveIn
+  unfolding figureStep rolledState archiveIn collectedIn
   rolled-figure =
-      ap₂ (λ (m : ℕ) (f : ℕ → ℕ → Option Line). record { live = m; frame = f; archive = archiveIn x }) live (fun-ext (λ j. fun-ext (λ l. rolled-frame j l)))
+      ap₂ (λ (m : ℕ) (f : ℕ → ℕ → Option Line). record { live = m; frame = f; archive = archiveIn x; collected = collectedIn x }) live (fun-ext (λ j. fun-ext (λ l. rolled-frame j l)))
 
   -- A line's most recent version lay in a dropped frame just if its entry's frame says so.
   abbrev origin : ℕ → Place
@@ -190,6 +190,7 @@ module _ (x : Storage) (q : WellStore x) (k : ℕ) (low : k ≤ liveIn (x .state
         long = subst (λ (p : Pieces). enough (settingsIn (x .state)) p ≡ true) (sym lengths) (q .long);
         bits = subst (λ (m : ℕ). WellBits (writtenIn dropped-to) next m) (sym live) (rolled-well (writtenIn x) (x .state .registers .tag) kept n (q .bits) groups history next r (omega (arith, lim .live-most, lim .good .frames-to)));
         pages = rolled-pages;
+        archive-empty = q .archive-empty;
         sized = forgotten-sized (x .state .cache) (q .sized) (x .state .registers .frames) (x .state .registers .omf) kept;
         version-line = step-versions dropped-to _ _ rolled-figure next-well;
         archive-line = step-archive dropped-to _ _ rolled-figure next-well;
@@ -246,7 +247,9 @@ module _ (x : Storage) (k a : ℕ) (p : Pieces) (are : p ≡ lengthsIn (x .memor
         (ap₂ (λ (g h : ℕ). record { archive = length (x .memory .archive); pool = length (x .memory .pool); groups = g; table = length (x .memory .table); owners = length (x .memory .owners); history = h })
         (rolled-groups-long (writtenIn x) (x .state .registers .tag % 256) (live - k) groups history next r small)
         (rolled-history-long (writtenIn x) (x .state .registers .tag % 256) (live - k) groups history next r small))
-        (ap₂ (λ (g h : List ℕ). memoryOf (drop (16 * x .state .registers .lines) (x .memory .archive)) (drop (128 * x .state .registers .pages) (x .memory .pool)) g (drop (x .state .registers .frames * (x .state .registers .lines / 8)) (x .memory .table)) (drop (x .state .registers .pages) (x .memory .owners)) h)
+        (ap₂
+        (λ (g h : List ℕ). memoryOf (drop (16 * x .state .registers .lines) (x .memory .archive)) (drop (128 * x .state .registers .pages) (x .memory .pool)) g
+        (drop (x .state .registers .frames * (x .state .registers .lines / 8)) (x .memory .table)) (drop (x .state .registers .pages + x .state .registers .lines) (x .memory .owners)) h)
         (rolled-groups-past (writtenIn x) (x .state .registers .tag % 256) (live - k) groups history next r small)
         (rolled-history-past (writtenIn x) (x .state .registers .tag % 256) (live - k) groups history next r small))
 

@@ -1,15 +1,16 @@
 -- A line's versions, newest frame first: what a search finds of them once frames are dropped or collected. Assumes nothing.
 use mathlib.Core.Path.{_≡_, refl, sym, _∙_, ap, ap₂, fun-ext}
-use mathlib.Core.Bool.{Bool, true, false, cond, false≢true}
+use mathlib.Core.Bool.{Bool, true, false, cond, _||_, false≢true}
 use mathlib.Core.Option.{Option, none, some, Option·getD}
-use Prim.Native.Nat.{ℕ, zero, suc, _+_, _<_}
+use Prim.Native.Nat.{ℕ, zero, suc, _+_, _-_, _<_}
 use native.Mathlib.Omega.{arith}
 use borrow.Author.Tests.{lt-ltb, le-ltb}
 use lib.Dec.{leb·suc-suc}
 use Rattle.rules.specs.Line.{Line}
 use Rattle.rules.specs.Call.{Place}
 use Rattle.rules.specs.Call.Place.{in-frame, in-archive}
-use Rattle.rules.specs.Seen.{further, dropped}
+use Rattle.rules.specs.Seen.{further, dropped, any}
+use Rattle.rules.proofs.Count.{any-first, any-true, any-none, any-false, any-found}
 use Rattle.rules.specs.Figure2.{versionIn, foundIn, isWritten}
 
 -- A version that lies k frames further back.
@@ -166,3 +167,57 @@ first-found (suc m) k (suc n) f newer e same =
     go : (b : Bool) → cond b (in-frame 0) (further (first m (foundIn n (λ j. f (suc j))))) ≡ first (suc m) (cond b (in-frame 0) (further (foundIn n (λ j. f (suc j)))))
     go true = first-here m
     go false = first-further m (foundIn n (λ j. f (suc j)))
+
+-- Some frame has the line exactly where the search finds it in one.
+further-archive : (o : Place) → further o ≡ in-archive → o ≡ in-archive
+unfolding further
+further-archive (in-frame j) e = absurd (let z : _≡_ {A = ℕ} 0 1 = cc in omega arith)
+further-archive in-archive e = refl
+
+pub archive-none : (n : ℕ) (f : ℕ → Bool) → foundIn n f ≡ in-archive → any n f ≡ false
+unfolding foundIn any
+archive-none zero f e = refl
+archive-none (suc n) f e = any-first n f ∙ go (f 0) e (archive-none n (λ j. f (suc j)))
+  where
+    go : (t : Bool) → cond t (in-frame 0) (further (foundIn n (λ j. f (suc j)))) ≡ in-archive → (foundIn n (λ j. f (suc j)) ≡ in-archive → any n (λ j. f (suc j)) ≡ false)
+        → (t || any n (λ j. f (suc j))) ≡ false
+    go true e ih = absurd (let z : _≡_ {A = ℕ} 0 1 = cc in omega arith)
+    go false e ih = ih (further-archive (foundIn n (λ j. f (suc j))) e)
+
+none-archive : (n : ℕ) (f : ℕ → Bool) → any n f ≡ false → foundIn n f ≡ in-archive
+unfolding foundIn further
+none-archive zero f d = refl
+none-archive (suc n) f d = go (f 0) (sym (any-first n f) ∙ d) (none-archive n (λ j. f (suc j)))
+  where
+    go : (t : Bool) → (t || any n (λ j. f (suc j))) ≡ false → (any n (λ j. f (suc j)) ≡ false → foundIn n (λ j. f (suc j)) ≡ in-archive)
+        → cond t (in-frame 0) (further (foundIn n (λ j. f (suc j)))) ≡ in-archive
+    go true d ih = absurd (false≢true (sym d))
+    go false d ih = ap further (ih d)
+
+pub frame-some : (n : ℕ) (f : ℕ → Bool) (j : ℕ) → foundIn n f ≡ in-frame j → any n f ≡ true
+frame-some n f j e = go (any n f) refl
+  where
+    apart : in-frame j ≡ in-archive → ⊥
+    apart z = let y : _≡_ {A = ℕ} 0 1 = cc in omega arith
+
+    go : (t : Bool) → any n f ≡ t → t ≡ true
+    go true d = refl
+    go false d = absurd (apart (sym e ∙ none-archive n f d))
+
+-- It is the same whether frames are counted from the oldest on or back from the newest.
+pub any-back : (n : ℕ) (f : ℕ → Bool) → any n (λ j. f (n - 1 - j)) ≡ any n f
+any-back n f = go (any n f) refl
+  where
+    go : (t : Bool) → any n f ≡ t → any n (λ j. f (n - 1 - j)) ≡ t
+    go true e =
+        let i = any-found n f e in
+        any-true n (λ j. f (n - 1 - j)) (n - 1 - i .0) (omega (arith, i .1)) (ap f (turned n (i .0) (i .1)) ∙ i .2)
+      where
+        turned : (n i : ℕ) → i < n → n - 1 - (n - 1 - i) ≡ i
+        turned n i b = omega arith
+    go false e = any-none n (λ j. f (n - 1 - j)) (λ j b. any-false n f e (n - 1 - j) (omega arith))
+
+pub written-some : (t : Bool) (v : Line) → isWritten (cond t (some v) none) ≡ t
+unfolding isWritten
+written-some true v = refl
+written-some false v = refl

@@ -10,7 +10,8 @@ use Rattle.written.specs.Bits.{writtenAt, writtenOf, AsksWritten}
 use Rattle.written.specs.Steps.{RolledBack}
 use Rattle.pages.specs.declared.Ring.{Ring}
 use Rattle.pages.specs.Ring.{nthPage, indexAt, AsksRing, Leading, Leads}
-use Rattle.versions.specs.Steps.{foldedPages, clearedPages, AsksPageFor, AsksFold, AsksGone}
+use Rattle.versions.specs.Steps.{foldedPages, flaggedPages, clearedPages, AsksPageFor, AsksFold, AsksGone}
+use Rattle.versions.proofs.Flagged.{Kept, indexes-kept, cleared-kept}
 use Rattle.storage.specs.declared.Registers.{Registers}
 use Rattle.storage.specs.Storage.{startIn}
 use Rattle.storage.specs.Admit.{Room}
@@ -46,27 +47,36 @@ module _ (s : rules.Registers) (archive pool table owners : ℕ) (groups history
         ring = room-ring s _ g first used;
         archive-long = g .archive-long;
         pool-long = g .pool-long;
+        owners-long = g .owners-long;
       })
 
 module _ (s : rules.Registers) (archive pool groups table history : ℕ) (owners : List ℕ)
     (g : Room s (record { archive = archive; pool = pool; groups = groups; table = table; owners = length owners; history = history })) (first used : ℕ) (ring : Ring)
     (is : ring ≡ seen (s .settings .lines) (s .settings .frames) (s .omf) (s .settings .pages) first used) where
-  pub seen-gone-asks : (k gone : ℕ) → k ≤ s .settings .frames → Leads (ring .used) (indexAt (ring .shape .frames) (ring .shape .omf) (ring .pages) (ring .first) owners) k gone
-      → AsksGone (ring .shape .lines) (ring .shape .frames) (ring .shape .omf) (ring .pages) (ring .first) (ring .used) owners gone groups
+  pub seen-gone-asks : (after : List ℕ) → Kept (ring .pages) (ring .shape .lines) owners after → (k gone : ℕ) → k ≤ s .settings .frames
+      → Leads (ring .used) (indexAt (ring .shape .frames) (ring .shape .omf) (ring .pages) (ring .first) owners) k gone
+      → AsksGone (ring .shape .lines) (ring .shape .frames) (ring .shape .omf) (ring .pages) (ring .first) (ring .used) after gone groups
   unfolding elements
-  seen-gone-asks k gone few =
+  seen-gone-asks after kept k gone few =
       subst
-      (λ (y : Ring). Leads (y .used) (indexAt (y .shape .frames) (y .shape .omf) (y .pages) (y .first) owners) k gone → AsksGone (y .shape .lines) (y .shape .frames) (y .shape .omf) (y .pages) (y .first) (y .used) owners gone groups)
-      (sym is)
-      (λ h.
-      record {
-        lines-few = g .lines-to;
-        frames-by = g .frames-by;
-        ring = room-ring s _ g first used;
-        gone-few = h .few;
-        inside = λ i b. omega (arith, h .low i b);
-        groups-long = g .groups-long;
-      })
+      (λ (y : Ring). Kept (y .pages) (y .shape .lines) owners after → Leads (y .used) (indexAt (y .shape .frames) (y .shape .omf) (y .pages) (y .first) owners) k gone
+      → AsksGone (y .shape .lines) (y .shape .frames) (y .shape .omf) (y .pages) (y .first) (y .used) after gone groups)
+      (sym is) asks kept
+    where
+      asks : Kept (s .settings .pages) (s .settings .lines) owners after
+          → Leads (min used (s .settings .pages)) (indexAt (s .settings .frames) (s .omf) (s .settings .pages) (startIn first (s .settings .pages)) owners) k gone
+          → AsksGone (s .settings .lines) (s .settings .frames) (s .omf) (s .settings .pages) (startIn first (s .settings .pages)) (min used (s .settings .pages)) after gone groups
+      asks kept h =
+          let ring = room-ring s _ g first used in
+          let same = indexes-kept (s .settings .pages) (s .settings .lines) (startIn first (s .settings .pages)) owners after (ring .first-below) kept (s .settings .frames) (s .omf) in
+          record {
+            lines-few = g .lines-to;
+            frames-by = g .frames-by;
+            ring = rw (kept .long) ring;
+            gone-few = h .few;
+            inside = λ i b. omega (arith, h .low i b, ap (λ (f : ℕ → ℕ). f i) same);
+            groups-long = g .groups-long;
+          }
 
 -- What they say of it.
 module _ (lines frames omf pages first used : ℕ) (ring : Ring) (is : ring ≡ seen lines frames omf pages first used) where
@@ -93,9 +103,17 @@ module _ (lines frames omf pages first used : ℕ) (ring : Ring) (is : ring ≡ 
   seen-folded groups history pool owners archive after gone e =
       e ∙ ap (λ (y : Ring). foldedPages (writtenAt (y .shape) groups history) (y .pages) (y .first) pool owners gone archive) is
 
-  pub seen-cleared : (groups owners after : List ℕ) (gone : ℕ) → after ≡ clearedPages (ring .shape .lines) (ring .pages) (ring .first) owners gone groups
-      → after ≡ clearedPages lines pages (startIn first pages) owners gone groups
-  seen-cleared groups owners after gone e = e ∙ ap (λ (y : Ring). clearedPages (y .shape .lines) (y .pages) (y .first) owners gone groups) is
+  pub seen-cleared : (groups owners noted after : List ℕ) (gone : ℕ) → ring .first < ring .pages → Kept (ring .pages) (ring .shape .lines) owners noted
+      → after ≡ clearedPages (ring .shape .lines) (ring .pages) (ring .first) noted gone groups → after ≡ clearedPages lines pages (startIn first pages) owners gone groups
+  seen-cleared groups owners noted after gone below kept e =
+      e
+      ∙ (cleared-kept (ring .pages) (ring .shape .lines) (ring .first) owners noted below kept gone groups
+      ∙ ap (λ (y : Ring). clearedPages (y .shape .lines) (y .pages) (y .first) owners gone groups) is)
+
+  pub seen-noted : (groups history owners after : List ℕ) (gone : ℕ) → after ≡ flaggedPages (writtenAt (ring .shape) groups history) (ring .pages) (ring .first) owners gone
+      → after ≡ flaggedPages (writtenOf lines frames omf groups history) pages (startIn first pages) owners gone
+  seen-noted groups history owners after gone e =
+      e ∙ ap (λ (y : Ring). flaggedPages (writtenAt (y .shape) groups history) (y .pages) (y .first) owners gone) is
 
   pub seen-advanced : (cmf next tag gone start : ℕ) → start ≡ nthPage (ring .pages) (ring .first) gone
       → _≡_ {A = Registers} (record { lines = lines; frames = frames; pages = pages; cmf = cmf; omf = next; tag = tag; first = start; used = ring .used - gone })

@@ -1,7 +1,7 @@
 -- RESET keeps its promise, on any state and any lent contents. Assumes nothing.
 use mathlib.Core.Path.{_≡_, refl, sym, _∙_, ap, ap₂, subst, fun-ext}
 use mathlib.Core.Logic.{_≢_}
-use mathlib.Core.Bool.{Bool, true, cond}
+use mathlib.Core.Bool.{Bool, true, false, cond, _&&_}
 use mathlib.Core.Option.{Option, none, some}
 use mathlib.Core.List.{List}
 use Prim.Native.Nat.{ℕ, _+_, _*_, _/_, _-_, _≤_, _<_, min}
@@ -34,17 +34,19 @@ use Rattle.written.specs.Steps.{blanked, AsksReset}
 use Rattle.written.specs.Well.{WellBits}
 use Rattle.written.proofs.Keeping.{started-effective, started-well}
 use Rattle.pages.specs.Lines.{archiveLine}
+use Rattle.pages.specs.Flags.{collectedAt, unflagged}
 use Rattle.pages.proofs.Keeping.{started-ring}
+use Rattle.pages.proofs.Flagging.{unflagged-length, unflagged-past, unflagged-none}
 use Rattle.cache.specs.declared.Cache.{Cache}
 use Rattle.cache.specs.Steps.{emptied}
 use Rattle.cache.proofs.Uses.{empty-shown, empty-all, empty-sized}
 use Rattle.versions.specs.Steps.{zeroed}
-use Rattle.storage.specs.Storage.{Storage, stateOf, storageOf, memoryOf, lengthsIn, liveIn, writtenIn, indexBack, versionAt, frameIn, archiveIn, Recent, WellStore, store}
+use Rattle.storage.specs.Storage.{Storage, stateOf, storageOf, memoryOf, lengthsIn, liveIn, writtenIn, indexBack, versionAt, frameIn, archiveIn, collectedIn, Recent, WellStore, store}
 use Rattle.storage.specs.declared.State.{State}
 use Rattle.storage.specs.Steps.{freshState}
 use Rattle.storage.specs.Contracts.{Resets}
 use Rattle.storage.proofs.Admitting.{Long, covers-long, long-covers}
-use Rattle.storage.proofs.Figures.{frame-at, frame-live, frame-past, step-versions, step-archive}
+use Rattle.storage.proofs.Figures.{frame-at, frame-live, frame-past, step-versions, step-archive, figure-archive}
 use Rattle.storage.proofs.Looking.{turned-down, let-through}
 
 -- The state in the form in which the code builds it.
@@ -80,7 +82,8 @@ module _ (asked : Settings) (m : Storage) (good : Good asked) (long : Long (elem
 
   abbrev pub begun : Storage
   begun =
-      storageOf (freshState lines (asked .frames) (asked .pages)) (zeroed lines (m .memory .archive)) (m .memory .pool) (blanked lines (asked .frames) (m .memory .groups)) (m .memory .table) (m .memory .owners)
+      storageOf (freshState lines (asked .frames) (asked .pages)) (zeroed lines (m .memory .archive)) (m .memory .pool) (blanked lines (asked .frames) (m .memory .groups)) (m .memory .table)
+      (unflagged (asked .pages) lines (m .memory .owners))
       (set (m .memory .history) 0 65535)
 
   live : liveIn (begun .state) ≡ 1
@@ -134,18 +137,36 @@ module _ (asked : Settings) (m : Storage) (good : Good asked) (long : Long (elem
       go (yes b) = ap (λ (t : Bool). cond t (archiveLine (zeroed lines (m .memory .archive)) l) zeros) (lt-ltb l lines b) ∙ zero-line lines (m .memory .archive) l b archive-long
       go (no b) = ap (λ (t : Bool). cond t (archiveLine (zeroed lines (m .memory .archive)) l) zeros) (le-ltb l lines (omega arith))
 
+  owners-long : asked .pages + lines ≤ length (m .memory .owners)
+  unfolding elements
+  owners-long = long .owners
+
+  -- and no line was collected
+  begun-collected : (l : ℕ) → collectedIn begun l ≡ false
+  unfolding collectedIn freshState
+  begun-collected l = go (decLt l lines)
+    where
+      go : Dec (l < lines) → (ltb l lines && collectedAt (asked .pages) (unflagged (asked .pages) lines (m .memory .owners)) l) ≡ false
+      go (yes b) =
+          ap (λ (t : Bool). t && collectedAt (asked .pages) (unflagged (asked .pages) lines (m .memory .owners)) l) (lt-ltb l lines b)
+          ∙ unflagged-none (asked .pages) lines (m .memory .owners) l b owners-long
+      go (no b) = ap (λ (t : Bool). t && collectedAt (asked .pages) (unflagged (asked .pages) lines (m .memory .owners)) l) (le-ltb l lines (omega arith))
+
   begun-figure : store .figure begun ≡ initial
   unfolding initial freshState
-  begun-figure =
-      ap₂ (λ (n : ℕ) (p : (ℕ → ℕ → Option Line) × (ℕ → Line)). record { live = n; frame = p .0; archive = p .1 }) live
-      (ap₂ (λ (f : ℕ → ℕ → Option Line) (g : ℕ → Line). (f, g)) (fun-ext (λ j. fun-ext (λ l. begun-frame j l))) (fun-ext (λ l. begun-archive l)))
+  begun-figure = λ i. record { live = live i; frame = λ j l. begun-frame j l i; archive = λ l. begun-archive l i; collected = λ l. begun-collected l i }
 
   lengths : lengthsIn (begun .memory) ≡ lengthsIn (m .memory)
   unfolding zeroed blanked
-  lengths =
-      ap₂ (λ (a : ℕ) (p : ℕ × ℕ). record { archive = a; pool = length (m .memory .pool); groups = p .0; table = length (m .memory .table); owners = length (m .memory .owners); history = p .1 })
-      (rewrite-length _ (m .memory .archive) (16 * lines))
-      (ap₂ (λ (g h : ℕ). (g, h)) (rewrite-length _ (m .memory .groups) (asked .frames / 16 * lines)) (length-set (m .memory .history) 0 65535))
+  lengths = λ i.
+      record {
+        archive = rewrite-length (λ _ b. 0) (m .memory .archive) (16 * lines) i;
+        pool = length (m .memory .pool);
+        groups = rewrite-length (λ _ g. 0) (m .memory .groups) (asked .frames / 16 * lines) i;
+        table = length (m .memory .table);
+        owners = unflagged-length (asked .pages) lines (m .memory .owners) i;
+        history = length-set (m .memory .history) 0 65535 i;
+      }
 
   begun-well : WellStore begun
   unfolding freshState atStart
@@ -155,8 +176,9 @@ module _ (asked : Settings) (m : Storage) (good : Good asked) (long : Long (elem
         long = subst (λ (p : Pieces). enough asked p ≡ true) (sym lengths) long-enough;
         bits = subst (WellBits (writtenIn begun) 0) (sym live) (started-well lines (asked .frames) (m .memory .groups) (m .memory .history) some-lines (good .lines-to) (good .frames-by) some-frames few-frames groups-long history-long);
         pages =
-            started-ring (writtenIn begun) (asked .pages) (m .memory .table) (m .memory .owners) (good .pages-from)
+            started-ring (writtenIn begun) (asked .pages) (m .memory .table) (unflagged (asked .pages) lines (m .memory .owners)) (good .pages-from)
             (started-effective lines (asked .frames) (m .memory .groups) (m .memory .history) some-lines (good .lines-to) (good .frames-by) some-frames few-frames groups-long history-long);
+        archive-empty = figure-archive begun asked initial begun-figure (initial-well asked good);
         sized = empty-sized;
         version-line = step-versions begun asked initial begun-figure (initial-well asked good);
         archive-line = step-archive begun asked initial begun-figure (initial-well asked good);
@@ -188,6 +210,10 @@ module _ (lines frames pages a : ℕ) (p : Pieces) (told : a ≡ askedRefusal p 
   unfolding elements
   zero-asks = (reset-good .lines-to, reset-long .archive)
 
+  pub clear-asks : (pages ≤ 4096) × (lines ≤ 4096) × (pages + lines ≤ p .owners)
+  unfolding elements
+  clear-asks = (reset-good .pages-to, reset-good .lines-to, reset-long .owners)
+
   pub reset-asks : AsksReset lines frames (p .groups) (p .history)
   unfolding elements
   reset-asks =
@@ -213,12 +239,12 @@ module _ (x : Storage) (lines frames pages a : ℕ) (told : a ≡ askedRefusal (
     unfolding refusal factsBy refused settingsFor elements zeroed blanked
     promised =
         let-through x (RESET asked) a told z refl (begun-started asked x good-asked long-asked) (lengths asked x good-asked long-asked)
-        (ap₂ (λ (a : List ℕ) (p : List ℕ × List ℕ). memoryOf a (drop (128 * pages) (x .memory .pool)) (p .0) (drop (frames * (lines / 8)) (x .memory .table)) (drop pages (x .memory .owners)) (p .1))
-        (rewrite-drop _ (x .memory .archive) (16 * lines) (16 * lines) (omega arith))
-        (ap₂ (λ (g h : List ℕ). (g, h)) (rewrite-drop _ (x .memory .groups) (frames / 16 * lines) (frames / 16 * lines) (omega arith)) (drop-set-lt 256 (x .memory .history) 0 65535 (omega arith))))
+        (λ i. memoryOf (rewrite-drop (λ _ b. 0) (x .memory .archive) (16 * lines) (16 * lines) (omega arith) i) (drop (128 * pages) (x .memory .pool))
+        (rewrite-drop (λ _ g. 0) (x .memory .groups) (frames / 16 * lines) (frames / 16 * lines) (omega arith) i) (drop (frames * (lines / 8)) (x .memory .table))
+        (unflagged-past pages lines (x .memory .owners) (pages + lines) (omega arith) i) (drop-set-lt 256 (x .memory .history) 0 65535 (omega arith) i))
 
-    pub reset-begins : (archive groups history : List ℕ) (s : State) → archive ≡ zeroed lines (x .memory .archive) → groups ≡ blanked lines frames (x .memory .groups)
-        → history ≡ set (x .memory .history) 0 65535 → s ≡ freshState lines frames pages
-        → Resets x lines frames pages 0 (storageOf s archive (x .memory .pool) groups (x .memory .table) (x .memory .owners) history)
-    reset-begins archive groups history s ea eg eh es =
-        (rw ea (rw eg (rw eh (rw es promised))), λ d. record { state = es; archive-is = ea; groups-is = eg; history-is = eh })
+    pub reset-begins : (archive groups owners history : List ℕ) (s : State) → archive ≡ zeroed lines (x .memory .archive) → groups ≡ blanked lines frames (x .memory .groups)
+        → owners ≡ unflagged pages lines (x .memory .owners) → history ≡ set (x .memory .history) 0 65535 → s ≡ freshState lines frames pages
+        → Resets x lines frames pages 0 (storageOf s archive (x .memory .pool) groups (x .memory .table) owners history)
+    reset-begins archive groups owners history s ea eg eo eh es =
+        (rw ea (rw eg (rw eo (rw eh (rw es promised)))), λ d. record { state = es; archive-is = ea; groups-is = eg; owners-is = eo; history-is = eh })

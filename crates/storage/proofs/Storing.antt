@@ -169,7 +169,7 @@ module _ (x : Storage) (wd a v r : ℕ) (let-in : admittedIn x 0 ≡ 0) (own : r
                 pages-few = room .pages-to;
                 page-below = page-few page (sym (seen-choice picked picked-is) ∙ at-page);
                 pool-long = room .pool-long;
-                owners-long = room .owners-long;
+                owners-long = omega (arith, room .owners-long);
               };
           bytes = place-room .0 .bytes;
           cmf-below = room .cmf-below;
@@ -231,7 +231,7 @@ module _ (x : Storage) (wd a v r : ℕ) (let-in : admittedIn x 0 ≡ 0) (own : r
           (past-written (x .memory .pool) (put .content) at (omega (arith, pool-room, below-pages)) (put .content-long) (128 * x .state .registers .pages) (omega (arith, below-pages)) i)
           (written-past (writtenIn x) (x .state .registers .tag % 256) l (live - 1) lent below i)
           (drop-set-lt (x .state .registers .frames * (x .state .registers .lines / 8)) (x .memory .table) entry page (entry-within (x .state .registers .lines) (x .state .registers .frames) (frameAt (x .state .registers .frames) (x .state .registers .omf) (live - 1)) l (room .lines-by) (frame-below (x .state .registers .frames) (x .state .registers .omf) (room .omf-below) (live - 1)) below) i)
-          (drop-set-lt (x .state .registers .pages) (x .memory .owners) page place below-pages i)
+          (drop-set-lt (x .state .registers .pages + x .state .registers .lines) (x .memory .owners) page place (omega (arith, below-pages)) i)
           (drop 256 (x .memory .history)))
         where
           lent : AsksWritten (writtenIn x)

@@ -9,7 +9,7 @@ use Rattle.rules.specs.Settings.{Pieces}
 use Rattle.rules.specs.Line.{Line, lineOf, offsetOf, valueAt}
 use Rattle.rules.specs.Call.{Answer, refused}
 use Rattle.rules.specs.Call.Place.{in-archive}
-use Rattle.rules.specs.Call.Origin.{from-cache, from}
+use Rattle.rules.specs.Call.Origin.{from-cache, from, empty}
 use Rattle.rules.specs.Call.Answer.{reading, lending}
 use Rattle.rules.specs.Call.Look.{LINE}
 use Rattle.rules.specs.Call.Act.{READ, LOOK}
@@ -35,18 +35,20 @@ use Rattle.cache.proofs.Uses.{placed-sized, placed-shown, placed-all, hit-place
 use Rattle.versions.specs.declared.Spot.{Spot}
 use Rattle.versions.specs.declared.Spot.the-variants.{Page, Archive}
 use Rattle.versions.specs.declared.Version.{Version}
+use Rattle.versions.specs.declared.Origin as code
 use Rattle.versions.specs.declared.Origin.the-variants as origin
-use Rattle.versions.specs.Newest.{pageOf, spotOf, contentOf, originOf, newestOf, latestOf}
+use Rattle.pages.specs.Flags.{collectedAt}
+use Rattle.versions.specs.Newest.{pageOf, spotOf, contentOf, originOf, emptyOr, newestOf, latestOf}
 use Rattle.versions.proofs.Finding.{latest-hit, latest-miss, latest-held}
 use Rattle.storage.specs.declared.State.{State}
-use Rattle.storage.specs.Storage.{Storage, stateOf, settingsIn, registersIn, lengthsIn, liveIn, writtenIn, frameIn, archiveIn, versionAt, latestIn, newestFrame, Recent, WellStore, store}
+use Rattle.storage.specs.Storage.{Storage, stateOf, settingsIn, registersIn, lengthsIn, liveIn, writtenIn, frameIn, archiveIn, collectedIn, versionAt, latestIn, newestFrame, Recent, WellStore, store}
 use Rattle.storage.specs.Admit.{admitted}
 use Rattle.storage.specs.Steps.{givenRegisters, usedState, readState}
 use Rattle.storage.specs.Contracts.{Reads}
 use Rattle.storage.proofs.Chains.{admitted-rest, line-room}
 use Rattle.storage.proofs.Looking.{admittedIn, told-in, turned-down, let-through}
 use Rattle.storage.proofs.Numbers.{used-number}
-use Rattle.storage.proofs.Reading.{well-findable, content-latest, latest-told, latest-line}
+use Rattle.storage.proofs.Reading.{well-findable, content-latest, latest-told, origin-named, latest-line}
 
 -- A use of a line by a READ: the cache has its most recent version, and all else is as it was.
 module _ (x : Storage) (q : WellStore x) (l : ℕ) (b : l < x .state .registers .lines) where
@@ -72,6 +74,7 @@ module _ (x : Storage) (q : WellStore x) (l : ℕ) (b : l < x .state .registers 
         long = q .long;
         bits = q .bits;
         pages = q .pages;
+        archive-empty = q .archive-empty;
         sized = placed-sized (x .state .cache) (q .sized) l (newestFrame x l) (latestIn x l) long;
         version-line = q .version-line;
         archive-line = q .archive-line;
@@ -90,10 +93,12 @@ module _ (x : Storage) (w a : ℕ) where
   l = lineOf a
 
   abbrev due : Answer
-  due = reading 0 (valueAt w (offsetOf a) (latestIn x l)) (cond (holds (shown (x .state .cache)) l) from-cache (from (seenOf store x .origin l)))
+  due =
+      reading 0 (valueAt w (offsetOf a) (latestIn x l))
+      (cond (seenOf store x .touched l) (cond (holds (shown (x .state .cache)) l) from-cache (from (seenOf store x .origin l))) empty)
 
   read-followed : (q : WellStore x) (b : l < x .state .registers .lines) → Followed store (READ w a) x due (used x q l b)
-  unfolding accepted figureStep cacheStep readState usedState frameIn archiveIn versionAt seenOf figureSeen mrv latestIn pageOf
+  unfolding accepted figureStep cacheStep readState usedState frameIn archiveIn collectedIn versionAt seenOf figureSeen mrv latestIn pageOf
   read-followed q b =
       record {
         answer = refl;
@@ -117,7 +122,8 @@ module _ (x : Storage) (w a : ℕ) where
       -- in the form in which the code has the version, the value, the cache and the state
       module _ (live : ℕ) (live-is : live ≡ liveIn (x .state)) (v : Version)
           (found : v ≡ latestOf (x .state .cache) (writtenIn x) (x .state .registers .pages) live (x .memory .archive) (x .memory .pool) (x .memory .table) l)
-          (value : ℕ) (valued : value ≡ valueAt w (offsetOf a) (v .content)) (s : State)
+          (value : ℕ) (valued : value ≡ valueAt w (offsetOf a) (v .content))
+          (named : code.Origin) (named-is : named ≡ emptyOr (collectedAt (x .state .registers .pages) (x .memory .owners) l) (v .frame) (v .origin)) (s : State)
           (is : s ≡ usedState (x .state) (x .state .registers .used) (placedIn (x .state .cache) l (v .frame) (v .content))) where
         module _ (q : WellStore x) where
           b : l < x .state .registers .lines
@@ -133,10 +139,10 @@ module _ (x : Storage) (w a : ℕ) where
           read-state =
               is ∙ ap₂ (λ (f : ℕ) (y : Line). usedState (x .state) (x .state .registers .used) (placedIn (x .state .cache) l f y)) (facts .1) (facts .0)
 
-          read-answer : reading 0 value (originOf (v .origin)) ≡ due
-          read-answer = ap₂ (reading 0) (valued ∙ ap (valueAt w (offsetOf a)) (facts .0)) (facts .2)
+          read-answer : reading 0 value (originOf named) ≡ due
+          read-answer = ap₂ (reading 0) (valued ∙ ap (valueAt w (offsetOf a)) (facts .0)) (ap originOf named-is ∙ origin-named x q l b v (facts .1) (facts .2))
 
-          read-step : Followed store (READ w a) x (reading 0 value (originOf (v .origin))) (record { state = s; memory = x .memory })
+          read-step : Followed store (READ w a) x (reading 0 value (originOf named)) (record { state = s; memory = x .memory })
           read-step =
               subst (λ (o : Answer). Followed store (READ w a) x o (record { state = s; memory = x .memory })) (sym read-answer)
               (subst (λ (t : State). Followed store (READ w a) x due (record { state = t; memory = x .memory })) (sym read-state) (read-followed q b))
@@ -145,7 +151,7 @@ module _ (x : Storage) (w a : ℕ) where
         unfolding usedState
         read-registers = ap (λ (y : State). store .registers (record { state = y; memory = x .memory })) is
 
-        read-told : Promise store (ON (READ w a)) x (reading 0 value (originOf (v .origin))) (record { state = s; memory = x .memory })
+        read-told : Promise store (ON (READ w a)) x (reading 0 value (originOf named)) (record { state = s; memory = x .memory })
         unfolding refusal actRefusal factsBy refused registersStep settingsFor
         read-told = let-through x (ON (READ w a)) r told z refl (record { registers = read-registers; followed = read-step }) refl refl
 
@@ -155,7 +161,9 @@ module _ (x : Storage) (w a : ℕ) where
         c = x .state .cache
 
         module _ (e : ℕ) (at-entry : f ≡ Hit e) (content : Line) (content-is : content ≡ heldBytes c e) (value : ℕ)
-            (valued : value ≡ valueAt w (offsetOf a) content) (last : List ℕ) (last-is : last ≡ set (c .last) (e / 2) (e % 2)) where
+            (valued : value ≡ valueAt w (offsetOf a) content) (frame : ℕ) (frame-is : frame ≡ heldFrame c e)
+            (named : code.Origin) (named-is : named ≡ emptyOr (collectedAt (x .state .registers .pages) (x .memory .owners) l) frame origin.Cache)
+            (last : List ℕ) (last-is : last ≡ set (c .last) (e / 2) (e % 2)) where
           abbrev held : Version
           held = record { content = content; frame = heldFrame c e; origin = origin.Cache }
 
@@ -172,13 +180,21 @@ module _ (x : Storage) (w a : ℕ) where
               used-done (x .state) (x .state .registers .used) l (heldFrame c e) content _
               (hit-placed c l e (sym f-is ∙ at-entry) last last-is ∙ ap (placedIn c l (heldFrame c e)) (sym content-is))
 
-          pub read-hits : Reads x w a 0 value (originOf origin.Cache) (record { state = after; memory = x .memory })
-          read-hits = (read-told live live-is held held-is value valued after after-is, λ e. (refl, read-state live live-is held held-is value valued after after-is))
+          named-held : named ≡ emptyOr (collectedAt (x .state .registers .pages) (x .memory .owners) l) (heldFrame c e) origin.Cache
+          named-held = named-is ∙ ap (λ (n : ℕ). emptyOr (collectedAt (x .state .registers .pages) (x .memory .owners) l) n origin.Cache) frame-is
+
+          pub read-hits : Reads x w a 0 value (originOf named) (record { state = after; memory = x .memory })
+          read-hits = (
+            read-told live live-is held held-is value valued named named-held after after-is,
+            λ e. (refl, read-state live live-is held held-is value valued named named-held after after-is),
+          )
 
         -- or the newest version, which the cache takes in.
         module _ (missed : f ≡ Miss) (v : Version)
             (v-is : v ≡ newestOf (writtenIn x) (x .state .registers .pages) live (x .memory .archive) (x .memory .pool) (x .memory .table) l) (value : ℕ)
-            (valued : value ≡ valueAt w (offsetOf a) (v .content)) (k : Cache) (k-is : k ≡ placedIn c l (v .frame) (v .content)) where
+            (valued : value ≡ valueAt w (offsetOf a) (v .content))
+            (named : code.Origin) (named-is : named ≡ emptyOr (collectedAt (x .state .registers .pages) (x .memory .owners) l) (v .frame) (v .origin))
+            (k : Cache) (k-is : k ≡ placedIn c l (v .frame) (v .content)) where
           found-is : v ≡ latestOf c (writtenIn x) (x .state .registers .pages) live (x .memory .archive) (x .memory .pool) (x .memory .table) l
           found-is =
               latest-held (c .held) (c .origins) (c .valid) (c .bytes) (writtenIn x) (x .state .registers .pages) live l (x .memory .archive) (x .memory .pool) (x .memory .table) f f-is v
@@ -190,8 +206,11 @@ module _ (x : Storage) (w a : ℕ) where
           abbrev loaded : State
           loaded = stateOf (x .state .registers) k
 
-          pub read-misses : Reads x w a 0 value (originOf (v .origin)) (record { state = loaded; memory = x .memory })
-          read-misses = (read-told live live-is v found-is value valued loaded loaded-is, λ e. (refl, read-state live live-is v found-is value valued loaded loaded-is))
+          pub read-misses : Reads x w a 0 value (originOf named) (record { state = loaded; memory = x .memory })
+          read-misses = (
+            read-told live live-is v found-is value valued named named-is loaded loaded-is,
+            λ e. (refl, read-state live live-is v found-is value valued named named-is loaded loaded-is),
+          )
 
 -- LINE lends the bytes where they stand.
 module _ (x : Storage) (l r : ℕ) (p : Pieces) (are : p ≡ lengthsIn (x .memory)) (given : r ≡ admitted (registersIn (x .state)) p (lineRefusal (settingsIn (x .state)) l)) where

@@ -7,7 +7,7 @@ use Prim.Native.Nat.{ℕ, zero, suc, _+_, _-_, _*_, _/_, _%_, _≤_, _<_}
 use native.Mathlib.Decide.{ℕ-discrete}
 use native.Mathlib.Omega.{arith}
 use borrow.Author.Tests.{eq-eqb, ne-eqb}
-use lib.Dec.{eqb}
+use lib.Dec.{eqb, ltb}
 use lib.ListN.{length, getD, set, length-set}
 use lib.Seq.{getD-set-same, getD-set-other}
 use Rattle.rules.specs.Settings.{Pieces, elements, enough}
@@ -41,11 +41,12 @@ use Rattle.cache.specs.Shown.{shown}
 use Rattle.cache.proofs.Uses.{placed-sized, placed-shown, placed-all}
 use Rattle.versions.specs.Newest.{pageOf}
 use Rattle.versions.proofs.Finding.{entry-within, place-entry}
-use Rattle.storage.specs.Storage.{Storage, storageOf, settingsIn, lengthsIn, liveIn, writtenIn, versionAt, frameIn, archiveIn, latestIn, frameNumber, newestFrame, Recent, Coherent, WellStore, store}
+use Rattle.storage.specs.Storage.{Storage, storageOf, settingsIn, lengthsIn, liveIn, writtenIn, versionAt, frameIn, archiveIn, collectedIn, latestIn, frameNumber, newestFrame, Recent, Coherent, WellStore, store}
 use Rattle.storage.specs.Steps.{usedState, currentFrame}
 use Rattle.storage.proofs.Limits.{Limits, limits, lent-long}
 use Rattle.storage.proofs.Past.{written-long}
-use Rattle.storage.proofs.Figures.{AlikeAt, frames-alike, frame-at, well-figure, step-versions, step-archive}
+use Rattle.storage.proofs.Figures.{AlikeAt, frames-alike, frame-at, well-figure, step-versions, step-archive, figure-archive}
+use Rattle.pages.proofs.Flagging.{collected-owner}
 use Rattle.storage.proofs.Numbers.{used-number}
 use Rattle.storage.proofs.Rows.{current-twice, current-version, current-found}
 use Rattle.storage.proofs.Reading.{latest-line}
@@ -244,10 +245,14 @@ module _ (x : Storage) (q : WellStore x) (wd a v : ℕ) (p : Placed (settingsIn 
             ∙ sym (ap (λ (t : Bool). cond t (some (edit wd (offsetOf a) v (Option·getD (frameIn x 0 m) (latestIn x m)))) (frameIn x 0 m)) (ne-eqb l m (λ t. s (sym t))))
     stored-frame (suc j) m = other-frame (suc j) m (λ s _. omega arith)
 
+    stored-collected : (m : ℕ) → collectedIn stored m ≡ collectedIn x m
+    unfolding collectedIn usedState
+    stored-collected m = ap (λ (t : Bool). ltb m (x .state .registers .lines) && t) (collected-owner (x .state .registers .pages) (x .memory .owners) _ _ m (c .below))
+
     stored-figure : store .figure stored ≡ figureStep (CHANGE (WRITE wd a v)) (store .registers x) (store .figure x)
     unfolding figureStep usedState archiveIn
     stored-figure =
-        ap (λ (f : ℕ → ℕ → Option Line). record { live = n; frame = f; archive = archiveIn x }) (fun-ext (λ j. fun-ext (λ m. stored-frame j m)))
+        λ i. record { live = n; frame = λ j m. stored-frame j m i; archive = archiveIn x; collected = λ m. stored-collected m i }
 
     next-well : WellFigure (settingsIn (x .state)) (figureStep (CHANGE (WRITE wd a v)) (store .registers x) (store .figure x))
     unfolding seenOf figureSeen
@@ -297,6 +302,7 @@ module _ (x : Storage) (q : WellStore x) (wd a v : ℕ) (p : Placed (settingsIn 
           long = subst (λ (r : Pieces). enough (settingsIn (x .state)) r ≡ true) (sym lengths) (q .long);
           bits = set-keeps w (x .state .registers .tag) n l (n - 1) (q .bits) asks (omega (arith, lim .live-some));
           pages = c .ring;
+          archive-empty = figure-archive stored _ _ stored-figure next-well;
           sized = placed-sized (x .state .cache) (q .sized) l (x .state .registers .cmf) content whole;
           version-line = step-versions stored _ _ stored-figure next-well;
           archive-line = step-archive stored _ _ stored-figure next-well;

@@ -1,5 +1,5 @@
 -- The tests of a state and of lent lengths: 5 and 6, which every call but RESET makes first.
-use Prim.Native.Nat.{ℕ, _*_, _/_, _%_, _≤_, _<_}
+use Prim.Native.Nat.{ℕ, _+_, _*_, _/_, _%_, _≤_, _<_}
 use mathlib.Core.Path.{_≡_}
 use mathlib.Core.Bool.{true}
 use Rattle.rules.specs.Settings.{Pieces, within}
@@ -56,7 +56,7 @@ pub record Room (r : Registers) (p : Pieces) : Type 0 where
   pub pool-long : 128 * r .settings .pages ≤ p .pool
   pub groups-long : r .settings .frames / 16 * r .settings .lines ≤ p .groups
   pub table-long : r .settings .frames * (r .settings .lines / 8) ≤ p .table
-  pub owners-long : r .settings .pages ≤ p .owners
+  pub owners-long : r .settings .pages + r .settings .lines ≤ p .owners
   pub history-long : 256 ≤ p .history
 
 -- LINE's line,

@@ -27,7 +27,8 @@ abbrev pub Resets : Storage → (lines frames pages refusal : ℕ) → Storage �
 Resets x l f p r t =
     Promise store (RESET (settingsOf l f p)) x (outcome r) t
     × (r ≡ 0
-    → ResetTo l f p (x .memory .archive) (x .memory .groups) (x .memory .history) (t .state) (t .memory .archive) (t .memory .groups) (t .memory .history))
+    → ResetTo l f p (x .memory .archive) (x .memory .groups) (x .memory .owners) (x .memory .history) (t .state) (t .memory .archive) (t .memory .groups) (t .memory .owners)
+    (t .memory .history))
 
 -- "WRITE(width, address, value): .. If the line has no written bit in CMF, its most recent version is copied there first; the bit is then set".
 abbrev pub Writes : Storage → (width address value refusal : ℕ) → Storage → Type 0
@@ -68,7 +69,7 @@ Advances x k r t =
     Promise store (ON (CHANGE (ADVANCE k))) x (outcome r) t
     × (r ≡ 0
     → AdvancedTo (x .state) (x .memory .archive) (x .memory .pool) (x .memory .groups) (x .memory .owners) (x .memory .history) k (t .state)
-    (t .memory .archive) (t .memory .groups) (t .memory .history))
+    (t .memory .archive) (t .memory .groups) (t .memory .owners) (t .memory .history))
 
 -- The same of the calls that do not look at the cache, or only at a part of it: whatever the rest holds, which stays. LINE, its companion
 -- and COUNTS look at the registers and the lent memory, and change nothing;

@@ -13,9 +13,10 @@ use Rattle.pages.specs.Lines.{withPageLine}
 use Rattle.pages.specs.Table.{placeAt, neededAt, entryAt, AsksEntry}
 use Rattle.pages.specs.Ring.{nthPage, indexAt, Leading, Leads}
 use Rattle.versions.specs.Newest.{latestOf, AsksNewest}
-use Rattle.versions.specs.Steps.{zeroed, foldedPages, clearedPages, AsksPut}
+use Rattle.versions.specs.Steps.{zeroed, foldedPages, flaggedPages, clearedPages, AsksPut}
+use Rattle.pages.specs.Flags.{unflagged}
 use Rattle.cache.specs.declared.Cache.{Cache}
-use Rattle.cache.specs.Steps.{emptied, placedIn, forgotten, collected}
+use Rattle.cache.specs.Steps.{emptied, placedIn, forgotten, advancedCache}
 use Rattle.storage.specs.declared.Registers.{Registers}
 use Rattle.storage.specs.declared.State.{State}
 use Rattle.storage.specs.Storage.{Storage, Lent, memoryOf, stateOf, shapeAt, ringAt, liveIn, writtenIn, latestIn, newestFrame, WellStore}
@@ -28,12 +29,13 @@ freshState lines frames pages =
       cache = emptied;
     }
 
--- What it leaves in all: "archive all zero .., no written bits, all pages free". Pool, table and owners stay as they are: with no written
--- bit nothing in them counts.
-pub record ResetTo (lines frames pages : ℕ) (archive groups history : List ℕ) (t : State) (archive-after groups-after history-after : List ℕ) : Type 0 where
+-- What it leaves in all: "archive all zero .., no written bits, all pages free", and no line collected (request 2.3). Pool, table and the pages'
+-- owners stay as they are: with no written bit nothing in them counts.
+pub record ResetTo (lines frames pages : ℕ) (archive groups owners history : List ℕ) (t : State) (archive-after groups-after owners-after history-after : List ℕ) : Type 0 where
   pub state : t ≡ freshState lines frames pages
   pub archive-is : archive-after ≡ zeroed lines archive
   pub groups-is : groups-after ≡ blanked lines frames groups
+  pub owners-is : owners-after ≡ unflagged pages lines owners
   pub history-is : history-after ≡ set history 0 65535
 
 -- Other registers, tag and ring; the settings stay.
@@ -81,10 +83,11 @@ advancedRegisters r k gone =
 
 unfoldable pub advancedState : State → (k gone : ℕ) → State
 advancedState s k gone =
-    stateOf (advancedRegisters (s .registers) k gone) (collected (s .cache) (s .registers .frames) (s .registers .omf) k)
+    stateOf (advancedRegisters (s .registers) k gone) (advancedCache (s .cache) (s .registers .frames) (s .registers .omf) k)
 
--- What it leaves in all: the state, the archive with the versions that these pages have, the groups without their bits, and the history.
-pub record AdvancedTo (s : State) (archive pool groups owners history : List ℕ) (k : ℕ) (t : State) (archive-after groups-after history-after : List ℕ) : Type 0 where
+-- What it leaves in all: the state, the archive with the versions that these pages have, the groups without their bits, the flags of the lines that
+-- they have, and the history.
+pub record AdvancedTo (s : State) (archive pool groups owners history : List ℕ) (k : ℕ) (t : State) (archive-after groups-after owners-after history-after : List ℕ) : Type 0 where
   pub gone : ℕ
   pub pages : FirstPages (s .registers) owners k gone
   pub state : t ≡ advancedState s k gone
@@ -93,6 +96,9 @@ pub record AdvancedTo (s : State) (archive pool groups owners history : List ℕ
       ≡ foldedPages (writtenOf (s .registers .lines) (s .registers .frames) (s .registers .omf) groups history) (s .registers .pages) (ringAt (s .registers) .first) pool owners
       gone archive
   pub groups-is : groups-after ≡ clearedPages (s .registers .lines) (s .registers .pages) (ringAt (s .registers) .first) owners gone groups
+  pub owners-is :
+      owners-after
+      ≡ flaggedPages (writtenOf (s .registers .lines) (s .registers .frames) (s .registers .omf) groups history) (s .registers .pages) (ringAt (s .registers) .first) owners gone
   pub history-is : history-after ≡ lowered k history
 
 -- READ and WRITE: the cache after a use, and after a WRITE the pages in use.

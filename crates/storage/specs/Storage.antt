@@ -1,7 +1,7 @@
 -- The store's storage: the state and the lent memory, what they show of Figures 2 and 3, and when they are well-formed.
 use Prim.Native.Nat.{ℕ, _-_, _%_, min}
 use mathlib.Core.Path.{_≡_}
-use mathlib.Core.Bool.{true, cond, _&&_}
+use mathlib.Core.Bool.{Bool, true, cond, _&&_}
 use mathlib.Core.Option.{Option, none, some}
 use mathlib.Core.List.{List}
 use lib.Dec.{ltb}
@@ -22,11 +22,13 @@ use Rattle.written.specs.Well.{WellBits}
 use Rattle.pages.specs.Lines.{pageLine, archiveLine}
 use Rattle.pages.specs.declared.Ring.{Ring}
 use Rattle.pages.specs.Ring.{WellRing}
+use Rattle.pages.specs.Flags.{collectedAt}
 use Rattle.cache.specs.declared.Cache.{Cache}
 use Rattle.cache.specs.Entries.{Sized, All}
 use Rattle.cache.specs.Steps.{archiveFrame}
 use Rattle.cache.specs.Shown.{shown}
 use Rattle.versions.specs.Newest.{pageOf}
+use Rattle.wellformed.specs.Parts.{WellArchive}
 use Rattle.storage.specs.declared.Registers.{Registers}
 use Rattle.storage.specs.declared.State.{State}
 
@@ -133,6 +135,10 @@ frameIn x j l =
 unfoldable pub archiveIn : Storage → ℕ → Line
 archiveIn x l = cond (ltb l (x .state .registers .lines)) (archiveLine (x .memory .archive) l) zeros
 
+-- Which of its L lines were collected (request 2.3).
+unfoldable pub collectedIn : Storage → ℕ → Bool
+collectedIn x l = ltb l (x .state .registers .lines) && collectedAt (x .state .registers .pages) (x .memory .owners) l
+
 -- The most recent version of a line: Figure 2's search, from CMF back.
 unfoldable pub latestIn : Storage → ℕ → Line
 latestIn x l = versionIn (liveIn (x .state)) (λ j. frameIn x j l) (archiveIn x l)
@@ -169,6 +175,9 @@ pub record WellStore (x : Storage) : Type 0 where
   pub entries : WellCache (settingsIn (x .state)) (shown (x .state .cache))
   -- and has its line's most recent bytes and frame: else a read that hits would be wrong, or a rollback would forget the wrong entries
   pub coherent : Coherent x
+  -- each line that was not collected is zero in the archive, written in a live frame or not: else it would be read as empty with another value than
+  -- 0, now or after a rollback (request 2.3)
+  pub archive-empty : WellArchive (x .state .registers .lines) (x .state .registers .pages) (x .memory .archive) (x .memory .owners)
   -- Facts of the types, true of all that a program can lend; the definitions are over lists of numbers, so they are said. The cache's arrays
   -- are as long as their type has it: else an entry could stand outside the 16 sets
   pub sized : Sized (x .state .cache)
@@ -186,6 +195,6 @@ store =
       Rest = Lent;
       past = λ n x. pastIn n (x .memory);
       Well = WellStore;
-      figure = λ x. record { live = liveIn (x .state); frame = frameIn x; archive = archiveIn x };
+      figure = λ x. record { live = liveIn (x .state); frame = frameIn x; archive = archiveIn x; collected = collectedIn x };
       cache = λ x. shown (x .state .cache);
     }

@@ -115,11 +115,15 @@ pub fn ring(registers: Registers) -> Ring
     }
 }
 
-// Whether each piece is as long as the sizing call says, or longer.
+// Whether each piece is as long as the sizing call says, or longer. The owners' test, the one with both L and P, comes early: behind the table's a
+// MARK would take two instructions more.
 fn is_covered(need: Need, lengths: Lengths) -> bool
     ensures { λ r. ⌜ r ≡ covers (inElements need) (piecesOf lengths) ⌝ }
 {
     if lengths.archive < need.archive {
+        return false;
+    }
+    if lengths.owners < need.owners / 4 {
         return false;
     }
     if lengths.pool < need.pool {
@@ -129,9 +133,6 @@ fn is_covered(need: Need, lengths: Lengths) -> bool
         return false;
     }
     if lengths.table < need.table / 2 {
-        return false;
-    }
-    if lengths.owners < need.owners / 4 {
         return false;
     }
     if lengths.history < need.history / 2 {

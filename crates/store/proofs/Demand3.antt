@@ -13,14 +13,19 @@ use Rattle.rules.specs.Refusal.{askedRefusal, refusal, factsBy}
 use Rattle.rules.specs.Plain.{Model, plainRefusal, modelAnswer, modelStep, answersFrom, freshModel}
 use Rattle.rules.specs.Promise.{Promise, Run}
 use Rattle.rules.specs.Promise.RunBy.{stop, next}
-use Rattle.rules.specs.Demand3.{Demand3, AnswersAsHistory}
+use Rattle.rules.specs.Demand3.{Demand3, AnswersAsHistory, EmptyReadsZero}
 use Rattle.rules.proofs.Demand3.{demand-3, reached-well, answers-as-history}
+use Rattle.rules.proofs.Empty.{empty-reads-zero}
 use Rattle.storage.specs.Storage.{Storage, lengthsIn, WellStore, store}
 use Rattle.storage.proofs.Figures.{lawful}
 use Rattle.store.specs.Shown.{Kept, lengthsKept, Promises, AnswersAs}
 
 pub store-demand-3 : Demand3 store
 store-demand-3 = demand-3 store lawful
+
+-- In every such list a read that names its line empty gives 0 (request 2.3).
+pub store-empty-zero : EmptyReadsZero store
+store-empty-zero = empty-reads-zero store lawful
 
 -- "All storage reached from RESET meets it" (the written well-formedness),
 pub store-reached : (s t u : Storage) (asked : Settings) (calls : List Call) (given : List Answer) → Promise store (RESET asked) s (outcome 0) t

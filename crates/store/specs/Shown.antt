@@ -26,7 +26,7 @@ lengthsOf m = lengthsIn m
 abbrev pub lentLengths : (archive pool groups table owners history : List ℕ) → Pieces
 lentLengths a p g t o h = lengthsOf (lentOf a p g t o h)
 
--- Document 01's origin for each case of READ's answer.
+-- The papers' origin for each case of READ's answer.
 abbrev pub shownOrigin : code.Origin → Origin
 shownOrigin o = originOf o
 

@@ -72,7 +72,7 @@ pub fn reset(
     pool: &[u8],
     groups: &mut [u32],
     table: &[u16],
-    owners: &[u32],
+    owners: &mut [u32],
     history: &mut [u16],
     lines: u32,
     frames: u32,
@@ -81,7 +81,7 @@ pub fn reset(
     ensures { λ r. ⌜ Resets
         (storageOf state (now (archive .entry)) (now (pool .entry)) (now (groups .entry)) (now (table .entry)) (now (owners .entry)) (now (history .entry)))
         lines frames pages (r .refusal)
-        (storageOf (r .state) (now (archive .exit)) (now (pool .entry)) (now (groups .exit)) (now (table .entry)) (now (owners .entry)) (now (history .exit))) ⌝ }
+        (storageOf (r .state) (now (archive .exit)) (now (pool .entry)) (now (groups .exit)) (now (table .entry)) (now (owners .exit)) (now (history .exit))) ⌝ }
 {
     let lengths = storage::measure(archive, pool, groups, table, owners, history);
     let refusal = storage::asked_refusal(lines, frames, pages, lengths);
@@ -95,6 +95,7 @@ pub fn reset(
         omf: 0,
     };
     written::reset(groups, history, shape);
+    pages::flags::clear(owners, pages, lines);
     Outcome {
         state: fresh(lines, frames, pages),
         refusal: 0,
@@ -410,14 +411,14 @@ pub fn advance(
     pool: &[u8],
     groups: &mut [u32],
     table: &[u16],
-    owners: &[u32],
+    owners: &mut [u32],
     history: &mut [u16],
     k: u32,
 ) -> Outcome
     ensures { λ r. ⌜ Advances
         (storageOf state (now (archive .entry)) (now (pool .entry)) (now (groups .entry)) (now (table .entry)) (now (owners .entry)) (now (history .entry)))
         k (r .refusal)
-        (storageOf (r .state) (now (archive .exit)) (now (pool .entry)) (now (groups .exit)) (now (table .entry)) (now (owners .entry)) (now (history .exit))) ⌝ }
+        (storageOf (r .state) (now (archive .exit)) (now (pool .entry)) (now (groups .exit)) (now (table .entry)) (now (owners .exit)) (now (history .exit))) ⌝ }
 {
     let mut cache = state.cache;
     let mut origins = cache.origins;
@@ -498,6 +499,9 @@ fn is_well(
         return false;
     }
     if !wellformed::entries(state.cache, lines) {
+        return false;
+    }
+    if !wellformed::archive(archive, owners, lines, pages) {
         return false;
     }
     wellformed::bytes(archive, 16 * lines);

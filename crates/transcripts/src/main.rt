@@ -284,7 +284,7 @@ fn show_all(
     history: &mut [u16],
 ) {
     let mut which = 0;
-    while which < 10 {
+    while which < 11 {
         let mut input = [0u8; 16384];
         let count = sessions::begin(which, &mut input);
         show(
@@ -306,7 +306,7 @@ fn main() {
     let mut pool = [0u8; 32768];
     let mut groups = [0u32; 8192];
     let mut table = [0u16; 16384];
-    let mut owners = [0u32; 256];
+    let mut owners = [0u32; 768];
     let mut history = [0u16; 256];
     show_all(
         &mut archive,

@@ -49,7 +49,7 @@ pub extern "C" fn vcm_blank() -> State
     store::blank()
 }
 
-// RESET: writes archive, groups and history.
+// RESET: writes archive, groups, the flags behind the owners, and history.
 #[no_mangle]
 pub extern "C" fn vcm_raw_reset(
     state: State,
@@ -57,7 +57,7 @@ pub extern "C" fn vcm_raw_reset(
     pool: &[u8],
     groups: &mut [u32],
     table: &[u16],
-    owners: &[u32],
+    owners: &mut [u32],
     history: &mut [u16],
     lines: u32,
     frames: u32,
@@ -66,7 +66,7 @@ pub extern "C" fn vcm_raw_reset(
     ensures { λ r. ⌜ Resets
         (storageOf state (now (archive .entry)) (now (pool .entry)) (now (groups .entry)) (now (table .entry)) (now (owners .entry)) (now (history .entry)))
         lines frames pages (r .refusal)
-        (storageOf (r .state) (now (archive .exit)) (now (pool .entry)) (now (groups .exit)) (now (table .entry)) (now (owners .entry)) (now (history .exit))) ⌝ }
+        (storageOf (r .state) (now (archive .exit)) (now (pool .entry)) (now (groups .exit)) (now (table .entry)) (now (owners .exit)) (now (history .exit))) ⌝ }
 {
     store::reset(
         state,
@@ -286,7 +286,7 @@ pub extern "C" fn vcm_raw_rollback(
     step.refusal
 }
 
-// ADVANCE: writes the registers, the frames of the cache's entries, archive, groups and history.
+// ADVANCE: writes the registers, the frames of the cache's entries, archive, groups, the flags behind the owners, and history.
 #[no_mangle]
 pub extern "C" fn vcm_raw_advance(
     registers: &mut [u32; 8],
@@ -295,12 +295,12 @@ pub extern "C" fn vcm_raw_advance(
     pool: &[u8],
     groups: &mut [u32],
     table: &[u16],
-    owners: &[u32],
+    owners: &mut [u32],
     history: &mut [u16],
     k: u32,
 ) -> u32
     ensures { λ r. ⌜ AdvancesIn (registersFrom (now (registers .entry))) (now (origins .entry)) (memoryOf (now (archive .entry)) (now (pool .entry)) (now (groups .entry)) (now (table .entry)) (now (owners .entry)) (now (history .entry))) k r (registersFrom (now (registers .exit))) (now (origins .exit))
-        (memoryOf (now (archive .exit)) (now (pool .entry)) (now (groups .exit)) (now (table .entry)) (now (owners .entry)) (now (history .exit))) ⌝ }
+        (memoryOf (now (archive .exit)) (now (pool .entry)) (now (groups .exit)) (now (table .entry)) (now (owners .exit)) (now (history .exit))) ⌝ }
 {
     let step = marks::advance(
         border::read_registers(registers),

@@ -1,5 +1,5 @@
 -- Pages folded into the archive one after the other, and their bits cleared, in the form in which the loops have it. Assumes nothing.
-use mathlib.Core.Path.{_≡_, refl, sym, _∙_, ap}
+use mathlib.Core.Path.{_≡_, refl, sym, _∙_, ap, subst}
 use mathlib.Core.Bool.{Bool, true, false, cond, not}
 use mathlib.Core.List.{List}
 use Prim.Native.Nat.{ℕ, _+_, _*_, _/_, _%_, _≤_, _<_}
@@ -18,7 +18,9 @@ use Rattle.pages.specs.Lines.{pageLine, withArchiveLine}
 use Rattle.pages.specs.Table.{blocksOf}
 use Rattle.pages.specs.Ring.{nthPage, ownerIndex, indexAt, Leads}
 use Rattle.pages.proofs.Halving.{index-high}
-use Rattle.versions.specs.Steps.{foldedLine, foldedLines, foldedPage, foldedPages, clearedPage, clearedPages, AsksCopy, AsksFold, AsksGone}
+use Rattle.versions.proofs.Flagged.{Kept, kept-same, pages-flagged}
+use Rattle.pages.specs.Flags.{flagged}
+use Rattle.versions.specs.Steps.{foldedLine, foldedLines, foldedPage, foldedPages, flaggedLine, flaggedLines, flaggedPage, flaggedPages, clearedPage, clearedPages, AsksCopy, AsksFold, AsksGone}
 
 -- ---- the lines of a page
 module _ (w : Written) (pool : List ℕ) (page index l : ℕ) (archive : List ℕ) (r : Bool) (e : r ≡ effective w index l) where
@@ -30,6 +32,15 @@ module _ (w : Written) (pool : List ℕ) (page index l : ℕ) (archive : List �
   pub line-passed : not r ≡ true → archive ≡ foldedLine w pool page index l archive
   unfolding foldedLine
   line-passed t = sym (ap (λ (u : Bool). cond u (withArchiveLine archive l (pageLine pool page (l % 8))) archive) (sym e ∙ not-true r t))
+
+module _ (w : Written) (pages index l : ℕ) (owners : List ℕ) (r : Bool) (e : r ≡ effective w index l) where
+  pub line-noted : not r ≡ false → (after : List ℕ) → after ≡ flagged pages l owners → after ≡ flaggedLine w pages index l owners
+  unfolding flaggedLine
+  line-noted t after a = a ∙ sym (ap (λ (u : Bool). cond u (flagged pages l owners) owners) (sym e ∙ not-false r t))
+
+  pub line-unnoted : not r ≡ true → owners ≡ flaggedLine w pages index l owners
+  unfolding flaggedLine
+  line-unnoted t = sym (ap (λ (u : Bool). cond u (flagged pages l owners) owners) (sym e ∙ not-true r t))
 
 module _ (w : Written) (pool : List ℕ) (page index block : ℕ) (archive : List ℕ) where
   pub record Lines (n : ℕ) (now : List ℕ) : Type 0 where
@@ -52,8 +63,9 @@ module _ (w : Written) (pool : List ℕ) (page index block : ℕ) (archive : Lis
             ∙ (ap (foldedLine w pool page index (block * 8 + n)) (h .same) ∙ ap (λ (k : ℕ). foldedLines w pool page index block k archive) (sym (add-one n)));
       }
 
-  pub lines-ask : (pages long n : ℕ) (now : List ℕ) → AsksCopy w pages page index (length archive) long → Lines n now → AsksCopy w pages page index (length now) long
-  lines-ask pages long n now ask h =
+  pub lines-ask : (pages long n : ℕ) (now : List ℕ) (owners noted : ℕ) → AsksCopy w pages page index (length archive) long owners → Lines n now → noted ≡ owners
+      → AsksCopy w pages page index (length now) long noted
+  lines-ask pages long n now owners noted ask h e =
       record {
         lent = ask .lent;
         lines-by = ask .lines-by;
@@ -62,6 +74,7 @@ module _ (w : Written) (pool : List ℕ) (page index block : ℕ) (archive : Lis
         index-below = ask .index-below;
         archive-long = omega (arith, ask .archive-long, h .long);
         pool-long = ask .pool-long;
+        owners-long = omega (arith, ask .owners-long, e);
       }
 
   pub lines-end : (n : ℕ) (now : List ℕ) → Lines n now → 8 ≤ n → block < blocksOf w → now ≡ foldedPage w pool page index block archive
@@ -76,7 +89,64 @@ module _ (w : Written) (pool : List ℕ) (page index block : ℕ) (archive : Lis
   unfolding foldedPage
   lines-none c = sym (ap (λ (t : Bool). cond t (foldedLines w pool page index block 8 archive) archive) (le-ltb block (blocksOf w) c))
 
+-- and their flags
+module _ (w : Written) (pages index block : ℕ) (owners : List ℕ) where
+  pub record NotedLines (n : ℕ) (now : List ℕ) : Type 0 where
+    pub long : length now ≡ length owners
+    pub same : now ≡ flaggedLines w pages index block n owners
+
+  pub noted-start : NotedLines 0 owners
+  unfolding flaggedLines
+  noted-start = record { long = refl; same = refl }
+
+  pub noted-next : (n : ℕ) (now : List ℕ) → NotedLines n now → (after : List ℕ) → length after ≡ length now → after ≡ flaggedLine w pages index (block * 8 + n) now → NotedLines (n + 1) after
+  unfolding flaggedLines
+  noted-next n now h after long e =
+      record {
+        long = long ∙ h .long;
+        same =
+            e
+            ∙ (ap (flaggedLine w pages index (block * 8 + n)) (h .same) ∙ ap (λ (k : ℕ). flaggedLines w pages index block k owners) (sym (add-one n)));
+      }
+
+  pub noted-end : (n : ℕ) (now : List ℕ) → NotedLines n now → n ≤ 8 → 8 ≤ n → block < blocksOf w → now ≡ flaggedPage w pages index block owners
+  unfolding flaggedPage
+  noted-end n now h a b c =
+      let all : n ≡ 8 = omega arith in
+      h .same
+      ∙ (ap (λ (k : ℕ). flaggedLines w pages index block k owners) all
+      ∙ sym (ap (λ (t : Bool). cond t (flaggedLines w pages index block 8 owners) owners) (lt-ltb block (blocksOf w) c)))
+
+  pub noted-none : blocksOf w ≤ block → owners ≡ flaggedPage w pages index block owners
+  unfolding flaggedPage
+  noted-none c = sym (ap (λ (t : Bool). cond t (flaggedLines w pages index block 8 owners) owners) (le-ltb block (blocksOf w) c))
+
 -- ---- the pages of the ring
+module _ (w : Written) (pages first : ℕ) (owners : List ℕ) where
+  pub record NotedPages (n : ℕ) (now : List ℕ) : Type 0 where
+    pub kept : Kept pages (w .lines) owners now
+    pub same : now ≡ flaggedPages w pages first owners n
+
+  pub noted-pages-start : NotedPages 0 owners
+  unfolding flaggedPages
+  noted-pages-start = record { kept = kept-same pages (w .lines) owners; same = refl }
+
+  -- what is read of a page is its owner still
+  pub noted-owner : (n : ℕ) (now : List ℕ) → NotedPages n now → first < pages → (page : ℕ) → page ≡ frameAt pages first n → getD now page 0 ≡ getD owners page 0
+  noted-owner n now h b page at = h .kept .below page (omega (arith, at, frame-below pages first b n))
+
+  pub noted-pages-next : w .lines % 8 ≡ 0 → pages + w .lines ≤ length owners → (n : ℕ) (now : List ℕ) → NotedPages n now → (page owner index : ℕ) → page ≡ frameAt pages first n
+      → owner ≡ getD owners page 0 → index ≡ ownerIndex (w .frames) (w .omf) owner → (after : List ℕ) → after ≡ flaggedPage w pages index (owner % 512) now → NotedPages (n + 1) after
+  unfolding flaggedPages
+  noted-pages-next by long n now h page owner index at own is after e =
+      let here : owner ≡ getD owners (nthPage pages first n) 0 = own ∙ ap (λ (q : ℕ). getD owners q 0) at in
+      let same : after ≡ flaggedPages w pages first owners (n + 1) =
+      e
+      ∙ ((λ j. flaggedPage w pages ((is ∙ ap (ownerIndex (w .frames) (w .omf)) here) j) (here j % 512) (h .same j))
+      ∙ ap (flaggedPages w pages first owners) (sym (add-one n)))
+      in
+      record { kept = subst (Kept pages (w .lines) owners) (sym same) (pages-flagged w pages first owners (n + 1) by long .kept); same = same }
+
 module _ (w : Written) (pages first used : ℕ) (pool owners archive : List ℕ) (k : ℕ) where
   abbrev indexes : ℕ → ℕ
   indexes = indexAt (w .frames) (w .omf) pages first owners
@@ -100,8 +170,9 @@ module _ (w : Written) (pages first used : ℕ) (pool owners archive : List ℕ)
     unfolding indexAt
     index-is = is ∙ ap (ownerIndex (w .frames) (w .omf)) owner-is
 
-    pub pages-ask : (long : ℕ) → AsksFold w pages first used (length archive) long (length owners) → index < w .frames → AsksCopy w pages page index (length now) long
-    pages-ask long ask l =
+    pub pages-ask : (long noted : ℕ) → AsksFold w pages first used (length archive) long (length owners) → index < w .frames → noted ≡ length owners
+        → AsksCopy w pages page index (length now) long noted
+    pages-ask long noted ask l e =
         record {
           lent = ask .lent;
           lines-by = ask .lines-by;
@@ -110,10 +181,11 @@ module _ (w : Written) (pages first used : ℕ) (pool owners archive : List ℕ)
           index-below = l;
           archive-long = omega (arith, ask .archive-long, h .long);
           pool-long = ask .pool-long;
+          owners-long = omega (arith, ask .owners-long, e);
         }
 
-    pub pages-stop : k ≤ index → Leads used indexes k n × (now ≡ foldedPages w pages first pool owners n archive)
-    pages-stop l = (record { few = h .few; low = h .low; stop = λ c. omega (arith, index-is, l) }, h .same)
+    pub pages-stop : k ≤ index → Leads used indexes k n
+    pages-stop l = record { few = h .few; low = h .low; stop = λ c. omega (arith, index-is, l) }
 
     pub pages-next : index < k → (after : List ℕ) → length after ≡ length now → after ≡ foldedPage w pool page index (owner % 512) now → Pages (n + 1) after
     unfolding foldedPages
@@ -132,8 +204,8 @@ module _ (w : Written) (pages first used : ℕ) (pool owners archive : List ℕ)
         low i c (yes z) = omega (arith, ap indexes z, index-is)
         low i c (no z) = h .low i (omega arith)
 
-  pub pages-end : (n : ℕ) (now : List ℕ) → Pages n now → used ≤ n → Leads used indexes k n × (now ≡ foldedPages w pages first pool owners n archive)
-  pages-end n now h b = (record { few = h .few; low = h .low; stop = λ c. absurd (omega arith) }, h .same)
+  pub pages-end : (n : ℕ) (now : List ℕ) → Pages n now → used ≤ n → Leads used indexes k n
+  pages-end n now h b = record { few = h .few; low = h .low; stop = λ c. absurd (omega arith) }
 
 -- an index below F is that of a frame
 pub index-frame-few : (frames omf owner k : ℕ) → ownerIndex frames omf owner < k → k ≤ frames → owner / 512 < frames

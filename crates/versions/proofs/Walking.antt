@@ -10,6 +10,8 @@ use borrow.Author.Tests.{lt-ltb, eq-eqb, eqb-true}
 use lib.Dec.{eqb}
 use lib.ListN.{length, getD}
 use Rattle.rules.specs.Line.{Line}
+use Rattle.rules.specs.Seen.{any}
+use Rattle.rules.proofs.Count.{any-true, any-none, any-false, any-found}
 use Rattle.rules.proofs.Tests.{both-true}
 use Rattle.numbers.specs.declared.Found.{Found}
 use Rattle.numbers.specs.declared.Found.the-variants.{At, Nothing}
@@ -150,6 +152,23 @@ module _ (w : Written) (lent : AsksWritten w) (pages first used gone k : ℕ) (b
       in
       sym (index-frame pages first (r .first-below) i (omega (arith, r .used-few)))
       ∙ (ap (positionOf pages first) same ∙ index-frame pages first (r .first-below) j (omega (arith, r .used-few)))
+
+  -- Some page walked has the line exactly if some collected frame has it.
+  pub any-collected : any gone has ≡ any k (λ j. effective w j l)
+  any-collected = go (any k (λ j. effective w j l)) refl
+    where
+      go : (t : Bool) → any k (λ j. effective w j l) ≡ t → any gone has ≡ t
+      go true e =
+          let j = any-found k (λ j. effective w j l) e in
+          let i = has-all (j .0) (j .1) (j .2) in
+          any-true gone has (i .0) (i .1) (i .2)
+      go false e = any-none gone has (λ i b. none i b (has i) refl)
+        where
+          none : (i : ℕ) → i < gone → (t : Bool) → has i ≡ t → t ≡ false
+          none i b true d =
+              let h = has-hits i b d in
+              absurd (false≢true (sym (any-false k (λ j. effective w j l) e (indexed i) (h .0)) ∙ h .1))
+          none i b false d = refl
 
   -- Where no collected frame has the line the archive's own stays, and else its newest version among them comes.
   module _ (pool archive : List ℕ) where

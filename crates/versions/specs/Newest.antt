@@ -1,14 +1,14 @@
 -- Where the newest version of a line stands, up to the frame of an index, and its bytes.
 use Prim.Native.Nat.{ℕ, _-_, _*_, _/_, _%_, _≤_, _<_}
 use mathlib.Core.Path.{_≡_}
-use mathlib.Core.Bool.{cond}
+use mathlib.Core.Bool.{Bool, cond, not, _&&_}
 use mathlib.Core.List.{List}
-use lib.Dec.{ltb}
+use lib.Dec.{ltb, eqb}
 use lib.ListN.{length, getD}
 use Rattle.rules.specs.Line.{Line}
 use Rattle.rules.specs.Call as call
 use Rattle.rules.specs.Call.Place.{in-frame, in-archive}
-use Rattle.rules.specs.Call.Origin.{from-cache, from}
+use Rattle.rules.specs.Call.Origin.{from-cache, from, empty}
 use Rattle.frames.specs.Circle.{frameAt}
 use Rattle.numbers.specs.declared.Found.{Found}
 use Rattle.numbers.specs.declared.Found.the-variants.{At, Nothing}
@@ -52,11 +52,20 @@ unfoldable pub backIn : (live : ℕ) → Found → code.Origin
 backIn live (At i) = origin.Frame (live - 1 - i)
 backIn live Nothing = origin.Archive
 
--- Document 01's origin for each case of the answer's.
+-- The papers' origin for each case of the answer's.
 unfoldable pub originOf : code.Origin → call.Origin
 originOf origin.Cache = from-cache
 originOf (origin.Frame back) = from (in-frame back)
 originOf origin.Archive = from in-archive
+originOf origin.Empty = empty
+
+-- Whether no surviving write has touched a line (request 2.3): its version is the archive's, and it was not collected.
+unfoldable pub isEmpty : (collected : Bool) → (frame : ℕ) → Bool
+isEmpty collected frame = eqb frame archiveFrame && not collected
+
+-- The origin that a read names, cached or not.
+unfoldable pub emptyOr : (collected : Bool) → (frame : ℕ) → code.Origin → code.Origin
+emptyOr collected frame found = cond (isEmpty collected frame) origin.Empty found
 
 -- The most recent version of a line among the live frames and the archive,
 unfoldable pub newestOf : Written → (pages live : ℕ) → (archive pool table : List ℕ) → (line : ℕ) → Version

@@ -13,6 +13,7 @@ use Rattle.written.specs.Steps.{clearedBlock}
 use Rattle.pages.specs.Lines.{pageLine, withArchiveLine}
 use Rattle.pages.specs.Table.{blocksOf, placeAt, AsksTable, entryAt, AsksEntry}
 use Rattle.pages.specs.Ring.{nthPage, ownerIndex, indexAt, owns, nextPage, AsksRing}
+use Rattle.pages.specs.Flags.{flagged}
 
 -- RESET: "archive all zero".
 unfoldable pub zeroed : (lines : ℕ) → List ℕ → List ℕ
@@ -38,6 +39,24 @@ foldedPages w pages first pool owners zero archive = archive
 foldedPages w pages first pool owners (suc n) archive =
     let owner = getD owners (nthPage pages first n) 0 in
     foldedPage w pool (nthPage pages first n) (ownerIndex (w .frames) (w .omf) owner) (owner % 512) (foldedPages w pages first pool owners n archive)
+
+-- Each line that is copied is collected from then on (request 2.3: "`a` is left for lines that were collected"): its flag is set, in the same order.
+-- `owners` is what the fold begins with, `so-far` what it has come to: no flag is a page's owner.
+unfoldable pub flaggedLine : Written → (pages index line : ℕ) → List ℕ → List ℕ
+flaggedLine w pages index l so-far = cond (effective w index l) (flagged pages l so-far) so-far
+
+unfoldable pub flaggedLines : Written → (pages index block n : ℕ) → List ℕ → List ℕ
+flaggedLines w pages index block zero so-far = so-far
+flaggedLines w pages index block (suc n) so-far = flaggedLine w pages index (block * 8 + n) (flaggedLines w pages index block n so-far)
+
+unfoldable pub flaggedPage : Written → (pages index block : ℕ) → List ℕ → List ℕ
+flaggedPage w pages index block so-far = cond (ltb block (blocksOf w)) (flaggedLines w pages index block 8 so-far) so-far
+
+unfoldable pub flaggedPages : Written → (pages first : ℕ) → (owners : List ℕ) → ℕ → List ℕ
+flaggedPages w pages first owners zero = owners
+flaggedPages w pages first owners (suc n) =
+    let owner = getD owners (nthPage pages first n) 0 in
+    flaggedPage w pages (ownerIndex (w .frames) (w .omf) owner) (owner % 512) (flaggedPages w pages first owners n)
 
 -- Their frames' bits in the lines of their blocks are cleared.
 unfoldable pub clearedPage : (lines owner : ℕ) → List ℕ → List ℕ
@@ -78,7 +97,7 @@ pub record AsksPut (w : Written) (pages tag line index page : ℕ) (pool table o
   pub owners-long : pages ≤ length owners
 
 -- What copying from a page asks: the page, the frame's index and the lengths,
-pub record AsksCopy (w : Written) (pages page index archive pool : ℕ) : Type 0 where
+pub record AsksCopy (w : Written) (pages page index archive pool owners : ℕ) : Type 0 where
   pub lent : AsksWritten w
   pub lines-by : w .lines % 8 ≡ 0
   pub page-below : page < pages
@@ -86,6 +105,7 @@ pub record AsksCopy (w : Written) (pages page index archive pool : ℕ) : Type 0
   pub index-below : index < w .frames
   pub archive-long : 16 * w .lines ≤ archive
   pub pool-long : 128 * pages ≤ pool
+  pub owners-long : pages + w .lines ≤ owners
 
 -- a fold: the ring besides.
 pub record AsksFold (w : Written) (pages first used archive pool owners : ℕ) : Type 0 where
@@ -94,6 +114,7 @@ pub record AsksFold (w : Written) (pages first used archive pool owners : ℕ) :
   pub ring : AsksRing pages first used (w .frames) (w .omf) owners
   pub archive-long : 16 * w .lines ≤ archive
   pub pool-long : 128 * pages ≤ pool
+  pub owners-long : pages + w .lines ≤ owners
 
 -- What clearing asks: the pages' owners are of frames that there are.
 pub record AsksGone (lines frames omf pages first used : ℕ) (owners : List ℕ) (gone groups : ℕ) : Type 0 where

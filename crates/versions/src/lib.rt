@@ -15,9 +15,10 @@ ghost use Rattle.written.specs.Steps.{withWritten};
 ghost use Rattle.pages.specs.Lines.{withPageLine};
 ghost use Rattle.pages.specs.Table.{placeAt, entryAt, AsksEntry};
 ghost use Rattle.pages.specs.Ring.{indexAt, Leads};
+ghost use Rattle.pages.specs.Flags.{collectedAt, AsksFlag};
 ghost use Rattle.cache.specs.Entries.{AsksFound};
-ghost use Rattle.versions.specs.Newest.{spotOf, contentOf, newestOf, latestFrom, AsksSpot, AsksContent, AsksNewest};
-ghost use Rattle.versions.specs.Steps.{zeroed, foldedLine, foldedPage, foldedPages, clearedPage, clearedPages, pageFor, usedFor, AsksPageFor, AsksPut, AsksCopy, AsksFold, AsksGone};
+ghost use Rattle.versions.specs.Newest.{spotOf, contentOf, newestOf, latestFrom, isEmpty, AsksSpot, AsksContent, AsksNewest};
+ghost use Rattle.versions.specs.Steps.{zeroed, foldedLine, foldedPage, foldedPages, flaggedLine, flaggedPage, flaggedPages, clearedPage, clearedPages, pageFor, usedFor, AsksPageFor, AsksPut, AsksCopy, AsksFold, AsksGone};
 
 // Where a version stands: in a page of the pool, in the slot of its line, or in the archive.
 pub enum Spot {
@@ -25,11 +26,13 @@ pub enum Spot {
     Archive,
 }
 
-// Where a read finds its line: in the cache, in the frame that lies so many marks back, or in the archive.
+// Where a read finds its line: in the cache, in the frame that lies so many marks back, in the archive, or nowhere: no surviving write has
+// touched it.
 pub enum Origin {
     Cache,
     Frame(u32),
     Archive,
+    Empty,
 }
 
 // The most recent version of a line: its bytes, the number of its frame as the cache has it, and its origin.
@@ -148,6 +151,17 @@ pub fn latest(
     }
 }
 
+// Whether no surviving write has touched a line, by the frame of its version and its flag.
+pub fn is_empty(owners: &[u32], pages: u32, line: u32, frame: u16) -> bool
+    requires { ⌜ AsksFlag pages line (length (now owners)) ⌝ }
+    ensures { λ r. ⌜ r ≡ isEmpty (collectedAt pages (now (owners .entry)) line) frame ⌝ }
+{
+    if frame != cache::ARCHIVE {
+        return false;
+    }
+    !pages::flags::is_collected(owners, pages, line)
+}
+
 // Zeroes the archive's lines.
 pub fn zero(archive: &mut [u8], lines: u32)
     requires { ⌜ (lines ≤ 4096) × (16 * lines ≤ length (now archive)) ⌝ }
@@ -161,25 +175,28 @@ pub fn zero(archive: &mut [u8], lines: u32)
     }
 }
 
-// Copies the version that a page has of a line, if the frame of an index wrote it, to the archive.
+// Copies the version that a page has of a line, if the frame of an index wrote it, to the archive; the line is collected then.
 fn fold_line(
     archive: &mut [u8],
     pool: &[u8],
     groups: &[u32],
+    owners: &mut [u32],
     history: &[u16],
     ring: Ring,
     page: u32,
     index: u32,
     line: u32,
 )
-    requires { ⌜ (AsksCopy (writtenAt (ring .shape) (now groups) (now history)) (ring .pages) page index (length (now archive)) (length (now pool))) × (line < ring .shape .lines) ⌝ }
-    ensures { λ _. ⌜ now (archive .exit) ≡ foldedLine (writtenAt (ring .shape) (now (groups .entry)) (now (history .entry))) (now (pool .entry)) page index line (now (archive .entry)) ⌝ }
+    requires { ⌜ (AsksCopy (writtenAt (ring .shape) (now groups) (now history)) (ring .pages) page index (length (now archive)) (length (now pool)) (length (now owners))) × (line < ring .shape .lines) ⌝ }
+    ensures copied { λ _. ⌜ now (archive .exit) ≡ foldedLine (writtenAt (ring .shape) (now (groups .entry)) (now (history .entry))) (now (pool .entry)) page index line (now (archive .entry)) ⌝ }
+    ensures noted { λ _. ⌜ now (owners .exit) ≡ flaggedLine (writtenAt (ring .shape) (now (groups .entry)) (now (history .entry))) (ring .pages) index line (now (owners .entry)) ⌝ }
 {
     if !written::has(groups, history, ring.shape, line, index) {
         return;
     }
     let content = pages::lines::read_page_line(pool, page, line % 8);
     pages::lines::write_archive_line(archive, line, content);
+    pages::flags::set_collected(owners, ring.pages, line);
 }
 
 // Copies the versions that a page has of the lines of a block so.
@@ -187,14 +204,16 @@ fn fold_page(
     archive: &mut [u8],
     pool: &[u8],
     groups: &[u32],
+    owners: &mut [u32],
     history: &[u16],
     ring: Ring,
     page: u32,
     index: u32,
     block: u32,
 )
-    requires { ⌜ AsksCopy (writtenAt (ring .shape) (now groups) (now history)) (ring .pages) page index (length (now archive)) (length (now pool)) ⌝ }
-    ensures { λ _. ⌜ now (archive .exit) ≡ foldedPage (writtenAt (ring .shape) (now (groups .entry)) (now (history .entry))) (now (pool .entry)) page index block (now (archive .entry)) ⌝ }
+    requires { ⌜ AsksCopy (writtenAt (ring .shape) (now groups) (now history)) (ring .pages) page index (length (now archive)) (length (now pool)) (length (now owners)) ⌝ }
+    ensures copied { λ _. ⌜ now (archive .exit) ≡ foldedPage (writtenAt (ring .shape) (now (groups .entry)) (now (history .entry))) (now (pool .entry)) page index block (now (archive .entry)) ⌝ }
+    ensures noted { λ _. ⌜ now (owners .exit) ≡ flaggedPage (writtenAt (ring .shape) (now (groups .entry)) (now (history .entry))) (ring .pages) index block (now (owners .entry)) ⌝ }
 {
     if ring.shape.lines / 8 <= block {
         return;
@@ -205,6 +224,7 @@ fn fold_page(
             archive,
             pool,
             groups,
+            owners,
             history,
             ring,
             page,
@@ -215,19 +235,21 @@ fn fold_page(
     }
 }
 
-// Folds the versions of the k oldest frames into the archive, page after page from the ring's oldest on; how many pages they have.
+// Folds the versions of the k oldest frames into the archive and sets their lines' flags, page after page from the ring's oldest on; how many pages
+// they have.
 pub fn fold(
     archive: &mut [u8],
     pool: &[u8],
     groups: &[u32],
+    owners: &mut [u32],
     history: &[u16],
-    owners: &[u32],
     ring: Ring,
     k: u32,
 ) -> u32
     requires { ⌜ (AsksFold (writtenAt (ring .shape) (now groups) (now history)) (ring .pages) (ring .first) (ring .used) (length (now archive)) (length (now pool)) (length (now owners))) × (k < ring .shape .frames) ⌝ }
     ensures { λ r. ⌜ (Leads (ring .used) (indexAt (ring .shape .frames) (ring .shape .omf) (ring .pages) (ring .first) (now (owners .entry))) k r)
-        × (now (archive .exit) ≡ foldedPages (writtenAt (ring .shape) (now (groups .entry)) (now (history .entry))) (ring .pages) (ring .first) (now (pool .entry)) (now (owners .entry)) r (now (archive .entry))) ⌝ }
+        × (now (archive .exit) ≡ foldedPages (writtenAt (ring .shape) (now (groups .entry)) (now (history .entry))) (ring .pages) (ring .first) (now (pool .entry)) (now (owners .entry)) r (now (archive .entry)))
+        × (now (owners .exit) ≡ flaggedPages (writtenAt (ring .shape) (now (groups .entry)) (now (history .entry))) (ring .pages) (ring .first) (now (owners .entry)) r) ⌝ }
 {
     let used = ring.used;
     let mut i = 0;
@@ -242,6 +264,7 @@ pub fn fold(
             archive,
             pool,
             groups,
+            owners,
             history,
             ring,
             page,

@@ -3,3 +3,4 @@ pub mod Groups
 pub mod Rings
 pub mod Recent
 pub mod Sets
+pub mod Archives

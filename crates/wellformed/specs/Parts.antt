@@ -1,14 +1,16 @@
 -- The clauses of well-formedness that a function decides by itself, and what is asked of the numbers and the lent lengths.
 use Prim.Native.Nat.{ℕ, _+_, _*_, _%_, _≤_, _<_}
 use mathlib.Core.Path.{_≡_}
-use mathlib.Core.Bool.{true}
+use mathlib.Core.Bool.{true, false}
 use mathlib.Core.List.{List}
 use lib.ListN.{length, getD}
-use Rattle.rules.specs.Line.{Line}
+use Rattle.rules.specs.Line.{Line, zeros}
 use Rattle.cache.specs.declared.Cache.{Cache}
 use Rattle.cache.specs.Entries.{heldLine}
 use Rattle.pages.specs.Table.{placesOf, entryOf, neededAt, AsksTable}
 use Rattle.pages.specs.Ring.{nthPage, indexAt, Backed, Paged}
+use Rattle.pages.specs.Lines.{archiveLine}
+use Rattle.pages.specs.Flags.{collectedAt}
 use Rattle.versions.specs.Newest.{newestOf}
 use Rattle.written.specs.Bits.{Written, AsksWritten}
 
@@ -38,6 +40,14 @@ pub record SetWell (lines : ℕ) (c : Cache) (set : ℕ) : Type 0 where
 abbrev pub RecentIn : Written → (pages live : ℕ) → (archive pool table : List ℕ) → (line frame : ℕ) → Line → Type 0
 RecentIn w pages live archive pool table l frame bytes =
     (l < w .lines) × (bytes ≡ newestOf w pages live archive pool table l .content) × (frame ≡ newestOf w pages live archive pool table l .frame)
+
+-- A line that was not collected is zero in the archive: else a read that finds no version of it would give another value than the 0 of request 2.3,
+-- at once or, where the line is written in a live frame, after a rollback.
+unfoldable pub CollectedOrZero : (pages : ℕ) → (archive owners : List ℕ) → (line : ℕ) → Type 0
+CollectedOrZero pages archive owners l = collectedAt pages owners l ≡ false → archiveLine archive l ≡ zeros
+
+abbrev pub WellArchive : (lines pages : ℕ) → (archive owners : List ℕ) → Type 0
+WellArchive lines pages archive owners = (l : ℕ) → l < lines → CollectedOrZero pages archive owners l
 
 -- The first n elements are bytes.
 abbrev pub Bytes : ℕ → List ℕ → Type 0

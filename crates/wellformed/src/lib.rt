@@ -6,7 +6,7 @@ use pages::Ring;
 use written::Shape;
 ghost use mathlib.Core.Path.{_≡_};
 ghost use mathlib.Core.Bool.{true};
-ghost use Prim.Native.Nat.{_/_, _%_, _≤_, _<_};
+ghost use Prim.Native.Nat.{_+_, _*_, _/_, _%_, _≤_, _<_};
 ghost use lib.ListN.{length};
 ghost use Rattle.rules.specs.Sizing.{settingsOf};
 ghost use Rattle.rules.specs.Figure3.{WellCache};
@@ -15,10 +15,12 @@ ghost use Rattle.written.specs.Steps.{Ordered};
 ghost use Rattle.written.specs.Well.{TagsKnown, OnlyLive, WellBits};
 ghost use Rattle.pages.specs.Table.{placeAt, entriesOf, AsksTable};
 ghost use Rattle.pages.specs.Ring.{AsksRing, WellRing};
+ghost use Rattle.pages.specs.Lines.{AsksArchive};
+ghost use Rattle.pages.specs.Flags.{AsksFlag};
 ghost use Rattle.cache.specs.Entries.{Sized, All};
 ghost use Rattle.cache.specs.Shown.{shown};
 ghost use Rattle.wellformed.specs.Decision.{Decides};
-ghost use Rattle.wellformed.specs.Parts.{BackedIn, InOrder, PagedIn, AllPaged, SetWell, RecentIn, Bytes, AsksBits, AsksRecent};
+ghost use Rattle.wellformed.specs.Parts.{BackedIn, InOrder, PagedIn, AllPaged, SetWell, CollectedOrZero, WellArchive, RecentIn, Bytes, AsksBits, AsksRecent};
 
 // Whether every group with a bit set has a tag up to the current one.
 fn tags_known(groups: &[u32], count: u32, tag: u32) -> bool
@@ -266,6 +268,34 @@ fn is_same(a: [u8; 16], b: [u8; 16]) -> bool
             return false;
         }
         i = i + 1;
+    }
+    true
+}
+
+// Whether a line, if it was not collected, is zero in the archive.
+fn is_collected_or_zero(archive: &[u8], owners: &[u32], pages: u32, line: u32) -> bool
+    requires { ⌜ (AsksArchive line (length (now archive))) × (AsksFlag pages line (length (now owners))) ⌝ }
+    ensures { λ r. ⌜ Decides r (CollectedOrZero pages (now (archive .entry)) (now (owners .entry)) line) ⌝ }
+{
+    if pages::flags::is_collected(owners, pages, line) {
+        return true;
+    }
+    let zeros = [0u8; 16];
+    let content = pages::lines::read_archive_line(archive, line);
+    is_same(content, zeros)
+}
+
+// Whether the archive is well-formed: every line is so.
+pub fn archive(archive: &[u8], owners: &[u32], lines: u32, pages: u32) -> bool
+    requires { ⌜ (lines ≤ 4096) × (lines % 8 ≡ 0) × (pages ≤ 4096) × (16 * lines ≤ length (now archive)) × (pages + lines ≤ length (now owners)) ⌝ }
+    ensures { λ r. ⌜ Decides r (WellArchive lines pages (now (archive .entry)) (now (owners .entry))) ⌝ }
+{
+    let mut line = 0;
+    while line < lines {
+        if !is_collected_or_zero(archive, owners, pages, line) {
+            return false;
+        }
+        line = line + 1;
     }
     true
 }

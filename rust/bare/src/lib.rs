@@ -23,7 +23,7 @@ fn tries() -> Result<(u32, Refusal), Refusal> {
     let need = SETTINGS.need()?;
     let (mut archive, mut pool) = ([0; 256], [0; 256]);
     let (mut groups, mut table) = ([0; 16], [0; 32]);
-    let (mut owners, mut history) = ([0; 2], [0; 256]);
+    let (mut owners, mut history) = ([0; 18], [0; 256]);
     if (need.groups, need.table) != (4 * groups.len(), 2 * table.len()) {
         return Err(Refusal::Memory);
     }

@@ -1,8 +1,9 @@
 -- `marks::advance` meets its contract. Assumes nothing.
 use mathlib.Core.Path.{ap}
 use Rattle.pages.specs.declared.Ring.{Ring}
+use Rattle.versions.proofs.Flagged.{fold-kept}
 use Rattle.storage.proofs.Admitting.{room-circle}
-use Rattle.storage.proofs.Seeing.{seen-asks, seen-fold-asks, seen-gone-asks, seen-first, seen-folded, seen-cleared, seen-advanced}
+use Rattle.storage.proofs.Seeing.{seen-asks, seen-fold-asks, seen-gone-asks, seen-first, seen-folded, seen-cleared, seen-noted, seen-advanced}
 use Rattle.storage.proofs.Chains.{frames-measured}
 use Rattle.storage.proofs.Collecting.{advance-refused, advance-collects}
 use borrow.Author.Needs.{needs}
@@ -26,7 +27,8 @@ clear-requires c κs =
     let r : tie.After-ring = search in
     let e : tie.Else1 = search in
     let g = frames-measured (e .before .before .measure .ensures) (e .before .admit-frames .ensures .1 (e .if1 .left)) in
-    seen-gone-asks _ _ _ _ _ _ _ (g .room) _ _ _ (r .ring .ensures) _ _ (omega (arith, g)) (f .fold .ensures .0)
+    let kept = fold-kept _ _ _ _ _ _ _ _ _ (seen-fold-asks _ _ _ _ _ _ _ (g .room) _ _ _ (r .ring .ensures)) (f .fold .ensures .2) in
+    seen-gone-asks _ _ _ _ _ _ _ (g .room) _ _ _ (r .ring .ensures) _ kept _ _ (omega (arith, g)) (f .fold .ensures .0)
 
 cast-lower : tie.Need-cast-lower
 cast-lower c = let e : tie.Else1 = search in omega (arith, e .before .admit-frames .ensures .1 (e .if1 .left))
@@ -67,9 +69,13 @@ returns-2 c =
     let r : tie.After-ring = search in
     let e : tie.Else1 = search in
     let is = r .ring .ensures in
+    let g = frames-measured (e .before .before .measure .ensures) (e .before .admit-frames .ensures .1 (e .if1 .left)) in
+    let ask = seen-fold-asks _ _ _ _ _ _ _ (g .room) _ _ _ is in
+    let kept = fold-kept _ _ _ _ _ _ _ _ _ ask (f .fold .ensures .2) in
     λ _ _ _ _.
-    advance-collects _ _ _ _ (e .before .before .measure .ensures) (e .before .admit-frames .ensures .0) _ (seen-first _ _ _ _ _ _ _ is _ _ _ (f .fold .ensures .0)) (e .if1 .left) _ _ _
-    (seen-folded _ _ _ _ _ _ _ is _ _ _ _ _ _ _ (f .fold .ensures .1)) (seen-cleared _ _ _ _ _ _ _ is _ _ _ _ (w .clear .ensures)) (l .lower .ensures) _ _
+    advance-collects _ _ _ _ (e .before .before .measure .ensures) (e .before .admit-frames .ensures .0) _ (seen-first _ _ _ _ _ _ _ is _ _ _ (f .fold .ensures .0)) (e .if1 .left) _ _ _ _
+    (seen-folded _ _ _ _ _ _ _ is _ _ _ _ _ _ _ (f .fold .ensures .1)) (seen-cleared _ _ _ _ _ _ _ is _ _ _ _ _ (ask .ring .first-below) kept (w .clear .ensures))
+    (seen-noted _ _ _ _ _ _ _ is _ _ _ _ _ (f .fold .ensures .2)) (l .lower .ensures) _ _
     (seen-advanced _ _ _ _ _ _ _ is _ _ _ _ _ (n .nth-page .ensures)) (k .collect .ensures)
 
 pub advance-spec : {M : Type 1} → statement M
@@ -78,6 +84,7 @@ advance-spec =
     (tie.spec
     (λ c κs. search needs)
     (λ c κs. search needs)
+    (λ c. search needs)
     (λ c. search needs)
     (λ c. search needs)
     (λ c. search needs)
@@ -92,6 +99,7 @@ advance-spec =
     rem-omf
     nth-page-requires
     sub-registers
+    (λ c. search needs)
     (λ c. search needs)
     (λ c. search needs)
     (λ c. search needs)

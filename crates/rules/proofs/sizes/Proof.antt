@@ -44,8 +44,11 @@ mul-t16 c =
     let h : Small (c .before .before .args .lines) (c .before .before .args .frames) = search sizing-small in
     omega arith
 
-mul-t17 : tie.Need-mul-t17
-mul-t17 c = search needs
+add-t17 : tie.Need-add-t17
+add-t17 c = search needs
+
+mul-t18 : tie.Need-mul-t18
+mul-t18 c = search needs
 
 returns-2 : tie.Need-returns-2
 unfolding sizesOf bytes elements
@@ -63,5 +66,6 @@ sizes-spec =
     mul-t13
     mul-t15
     mul-t16
-    mul-t17
+    add-t17
+    mul-t18
     returns-2)

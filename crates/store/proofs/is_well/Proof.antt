@@ -31,6 +31,14 @@ entries-requires c κs = search needs
 returns-3 : tie.Need-returns-3
 returns-3 c = part-fails _ (entries-part _) (c .before .entries .ensures) (c .if3 .taken)
 
+archive-requires : tie.Need-archive-requires
+archive-requires c κs =
+    let s : tie.Start = search in
+    let g = room-passed _ _ (s .pre) in (g .lines-to, g .lines-by, g .pages-to, g .archive-long, g .owners-long)
+
+returns-4 : tie.Need-returns-4
+returns-4 c = part-fails _ (λ q. q .archive-empty) (c .before .archive .ensures) (c .if4 .taken)
+
 mul-bytes : tie.Need-mul-bytes
 mul-bytes c = let s : tie.Start = search in omega (arith, room-passed _ _ (s .pre))
 
@@ -49,8 +57,8 @@ coherent-requires c κs =
     let s : tie.Start = search in
     room-recent _ _ _ _ _ _ _ _ (room-passed _ _ (s .pre)) (l .live .ensures)
 
-returns-4 : tie.Need-returns-4
-returns-4 c = search well-decided
+returns-5 : tie.Need-returns-5
+returns-5 c = search well-decided
 
 pub is-well-spec : {M : Type 1} → statement M
 is-well-spec =
@@ -63,9 +71,11 @@ is-well-spec =
     returns-2
     entries-requires
     returns-3
+    archive-requires
+    returns-4
     mul-bytes
     bytes-requires
     mul-bytes-2
     bytes-requires-2
     coherent-requires
-    returns-4)
+    returns-5)

@@ -1,4 +1,4 @@
--- `transcripts::show_all` is safe and ends: there are ten sessions. Assumes nothing.
+-- `transcripts::show_all` is safe and ends: there are eleven sessions. Assumes nothing.
 use borrow.Author.Needs.{needs}
 use native.Mathlib.Omega.{arith}
 use mathlib.Core.Path.{_≡_, refl, sym, _∙_, ap}
@@ -16,7 +16,7 @@ Inv-loop archive₀ pool₀ groups₀ table₀ owners₀ history₀ which₀ arc
 
 abbrev μ-loop : tie.MeasureT-loop
 μ-loop archive₀ pool₀ groups₀ table₀ owners₀ history₀ which₀ archive pool groups table owners history which =
-    10 - which
+    11 - which
 
 loop-holds : tie.Need-loop-holds Inv-loop μ-loop
 loop-holds c = refl

@@ -23,10 +23,10 @@ write-at p = let m = p .before .before .before .before .before .before in let n 
 abbrev kept-at : tie.After-read → tie.After-history2
 kept-at p = let m = p .before .before .before .before .before in m .before .before .before .before
 
-abbrev later-at : tie.After-rollback → tie.After-owners2
+abbrev later-at : tie.After-rollback → tie.After-owners3
 later-at p = let m = p .before .before .before .before .before in m .before .before .before .before
 
-abbrev sooner-at : tie.After-mark → tie.After-owners
+abbrev sooner-at : tie.After-mark → tie.After-owners2
 sooner-at p = let m = p .before .before .before .before .before in m .before .before .before .before
 
 abbrev first-at : tie.After-write → tie.After-history
@@ -51,7 +51,7 @@ read-requires : tie.Need-read-requires
 read-requires c κs = search needs
 
 same-length : tie.Need-same-length
-same-length c = let q : tie.After-read = search in first-at (write-at (mark-at (again-at (back-at q)))) .before .before .before .before .archive .given
+same-length c = let q : tie.After-read = search in first-at (write-at (mark-at (again-at (back-at q)))) .before .before .before .before .before .before .archive .given
 
 same-length-2 : tie.Need-same-length-2
 same-length-2 c =
@@ -65,7 +65,7 @@ same-length-3 c =
     let b = back-at q in
     let m = mark-at (again-at b) in
     kept-at q .before .before .groups4 .given ∙ (later-at b .before .before .before .before .groups3 .given
-    ∙ (sooner-at m .before .before .before .before .groups2 .given ∙ first-at (write-at m) .before .before .groups .given))
+    ∙ (sooner-at m .before .before .before .before .groups2 .given ∙ first-at (write-at m) .before .before .before .before .groups .given))
 
 same-length-4 : tie.Need-same-length-4
 same-length-4 c =
@@ -74,7 +74,11 @@ same-length-4 c =
     later-at b .before .before .table2 .given ∙ sooner-at (mark-at (again-at b)) .before .before .table .given
 
 same-length-5 : tie.Need-same-length-5
-same-length-5 c = let q : tie.After-read = search in let b = back-at q in later-at b .owners2 .given ∙ sooner-at (mark-at (again-at b)) .owners .given
+same-length-5 c =
+    let q : tie.After-read = search in
+    let b = back-at q in
+    let m = mark-at (again-at b) in
+    later-at b .owners3 .given ∙ (sooner-at m .owners2 .given ∙ first-at (write-at m) .before .before .owners .given)
 
 same-length-6 : tie.Need-same-length-6
 same-length-6 c = let q : tie.After-read = search in kept-at q .history2 .given ∙ first-at (write-at (mark-at (again-at (back-at q)))) .history .given
@@ -86,7 +90,7 @@ returns c =
     let v = again-at b in
     let m = mark-at v in
     let w = write-at m in
-    let r : tie.After-reset = first-at w .before .before .before .before .before in
+    let r : tie.After-reset = first-at w .before .before .before .before .before .before .before in
     let calls = next (w .write .ensures .0) (next (m .mark .ensures .0) (next (v .write2 .ensures .0) (next (b .rollback .ensures .0) (next (q .read .ensures .0) stop)))) in
     let told = r .reset .ensures .0 in
     (store-refusal _ _ _ _ told, λ z. store-answers _ _ _ _ _ _ _ z told calls, λ z. taken-back _ _ _ _ _ _ _ _ _ _ _ _ (store-answers _ _ _ _ _ _ _ z told calls))

@@ -22,6 +22,9 @@ same-length-2 c = search needs
 same-length-3 : tie.Need-same-length-3
 same-length-3 c = search needs
 
+same-length-4 : tie.Need-same-length-4
+same-length-4 c = search needs
+
 returns : tie.Need-returns
 returns c =
     let l : tie.After-read-registers = search in let s : tie.After-advance = search in rw (c .write-registers .ensures, sym (l .read-registers .ensures)) (s .advance .ensures)
@@ -36,4 +39,5 @@ vcm-raw-advance-spec =
     same-length
     same-length-2
     same-length-3
+    same-length-4
     returns)

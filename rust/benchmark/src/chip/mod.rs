@@ -1,6 +1,6 @@
 //! The same algorithm as the proved store in safe Rust, with `&mut self` and nothing proved: written bits in groups of 16 with tags, a rollback
-//! history with bounds relative to OMF, a ring of pages with a table and owners, a cache of 16 sets of two ways, an archive. Its answers and its
-//! refusals from 7 to 13 are the same; 5 and 6 cannot come.
+//! history with bounds relative to OMF, a ring of pages with a table and owners, a cache of 16 sets of two ways, an archive and which of its lines
+//! were collected. Its answers and its refusals from 7 to 13 are the same; 5 and 6 cannot come.
 mod cache;
 mod written;
 
@@ -44,6 +44,8 @@ pub struct Chip {
     /// how many pages are needed: those from the first on, round the pool, in the order of their frames
     used: u32,
     archive: Vec<Line>,
+    /// which lines were copied to the archive
+    collected: Vec<bool>,
     pool: Vec<[Line; 8]>,
     table: Vec<u16>,
     /// for each page its frame * 512 + block
@@ -70,6 +72,7 @@ impl Chip {
             first: 0,
             used: 0,
             archive: vec![[0; 16]; lines as usize],
+            collected: vec![false; lines as usize],
             pool: vec![[[0; 16]; 8]; pages as usize],
             table: vec![0; (blocks * frames) as usize],
             owners: vec![u32::MAX; pages as usize],
@@ -111,17 +114,37 @@ impl Chip {
         }
     }
 
+    /// Whether no surviving write has touched a line, by the frame of its most recent version.
     #[inline]
+    fn is_empty(&self, line: u32, frame: u16) -> bool {
+        frame == ARCHIVE && !self.collected[line as usize]
+    }
+
+    #[inline(always)]
     fn read(&mut self, width: u32, address: u32) -> Result<(u32, Origin), Refusal> {
         self.admit(width, address)?;
         let (line, offset) = (address / 16, address as usize % 16);
         if let Some(way) = self.cache.way_of(line) {
-            let bytes = &self.cache.entry(line, way).bytes;
-            return Ok((value_of(bytes, width, offset), Origin::Cache));
+            let entry = self.cache.entry(line, way);
+            let (value, frame) = (value_of(&entry.bytes, width, offset), entry.frame);
+            if self.is_empty(line, frame) {
+                return Ok((value, Origin::Empty));
+            }
+            return Ok((value, Origin::Cache));
         }
+        self.load(line, width, offset)
+    }
+
+    /// A read of a line that the cache does not hold.
+    #[inline]
+    fn load(&mut self, line: u32, width: u32, offset: usize) -> Result<(u32, Origin), Refusal> {
         let (bytes, frame, origin) = self.newest(line);
         self.cache.fill(line, frame, bytes);
-        Ok((value_of(&bytes, width, offset), origin))
+        let value = value_of(&bytes, width, offset);
+        if self.is_empty(line, frame) {
+            return Ok((value, Origin::Empty));
+        }
+        Ok((value, origin))
     }
 
     #[inline]
@@ -249,7 +272,7 @@ impl Chip {
         self.written.history()
     }
 
-    /// Copies the lines written in a page to the archive, and clears their bits.
+    /// Copies the lines written in a page to the archive, notes that they were collected, and clears their bits.
     fn fold(&mut self, page: u32) {
         let owner = self.owners[page as usize];
         let (frame, block) = (owner / 512, owner % 512);
@@ -258,6 +281,7 @@ impl Chip {
         for (slot, line) in self.archive[first..first + 8].iter_mut().enumerate() {
             if self.written.take((first + slot) as u32, frame) {
                 *line = content[slot];
+                self.collected[first + slot] = true;
             }
         }
     }
@@ -287,7 +311,7 @@ impl Peer for Chip {
         Chip::new(settings)
     }
 
-    #[inline]
+    #[inline(always)]
     fn read(&mut self, width: u32, address: u32) -> Seen {
         let (value, origin) = Chip::read(self, width, address).expect("accepted");
         Seen {

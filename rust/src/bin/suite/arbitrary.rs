@@ -61,7 +61,7 @@ pub fn know(stored: &Stored) -> Known {
 /// The pieces that a call may write.
 fn writes(call: Call) -> &'static [&'static str] {
     match call {
-        Call::Reset { .. } | Call::Advance(_) => &["archive", "groups", "history"],
+        Call::Reset { .. } | Call::Advance(_) => &["archive", "groups", "owners", "history"],
         Call::Write { .. } => &["pool", "groups", "table", "owners"],
         Call::Rollback(_) => &["groups", "history"],
         _ => &[],
@@ -292,7 +292,8 @@ impl Judge {
     }
 }
 
-/// "RESET(L, F, P): archive all zero, one live frame, no written bits, all pages free, cache empty." Every field and every element.
+/// "RESET(L, F, P): archive all zero, one live frame, no written bits, all pages free, cache empty", and by request 2.3 no line collected. Every field
+/// and every element.
 fn is_fresh(stored: &Stored, before: &Stored, asked: Settings) -> Result<(), &'static str> {
     let need = Lengths::of(asked);
     let registers = Registers {
@@ -313,6 +314,11 @@ fn is_fresh(stored: &Stored, before: &Stored, asked: Settings) -> Result<(), &'s
     let is_zero = memory.archive[..need.archive].iter().all(|byte| *byte == 0);
     if !is_zero || memory.groups[..need.groups].iter().any(|group| *group != 0) {
         return Err("archive or groups are not all zero");
+    }
+    let pages = asked.pages as usize;
+    let (owners, flags) = memory.owners[..need.owners].split_at(pages);
+    if owners != &before.memory.owners.get()[..pages] || flags.iter().any(|flag| *flag != 0) {
+        return Err("an owner is written, or a flag is not 0");
     }
     if memory.history[0] != OPEN || memory.history[1..] != before.memory.history.get()[1..] {
         return Err("the history is not open, or written past its first entry");

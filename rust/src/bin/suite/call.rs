@@ -61,6 +61,7 @@ pub enum Origin {
     Archive,
     Frame(u32),
     Cache,
+    Empty,
 }
 
 /// All that a call answers. A refused LINE leaves the bytes as they were before, `UNTOUCHED`.
@@ -167,6 +168,7 @@ pub fn ask(state: &mut State, memory: &mut Memory, call: Call, tally: &mut Tally
                     (0, 0) => Origin::Archive,
                     (1, back) => Origin::Frame(back),
                     (2, 0) => Origin::Cache,
+                    (3, 0) => Origin::Empty,
                     // no origin of the border: u32::MAX marks back is no answer of any store
                     _ => Origin::Frame(u32::MAX),
                 },

@@ -1,11 +1,11 @@
-//! What ADVANCE leaves of the ring, the archive, the groups and the history, on any storage.
+//! What ADVANCE leaves of the ring, the archive, the groups, the collected lines' flags and the history, on any storage.
 //! Written from the definitions (specs of `storage`, `versions` and `written`), not from the library's code.
 use crate::ring::seen;
 use crate::stored::Stored;
 use crate::wellformed::OPEN;
 
-/// The pages from the oldest on, up to the first whose frame stays, are folded line by line, each where its bit is effective, and their
-/// frames' bits in their blocks are cleared. The history's entries go down with OMF.
+/// The pages from the oldest on, up to the first whose frame stays, are folded line by line, each where its bit is effective, whose flag is then
+/// 1, and their frames' bits in their blocks are cleared. The history's entries go down with OMF.
 fn advanced(before: &Stored, k: u32) -> Stored {
     let seen = Stored {
         state: seen(&before.state),
@@ -25,6 +25,7 @@ fn advanced(before: &Stored, k: u32) -> Stored {
             if storage.effective(storage.owner_index(owner), line) {
                 let version = &storage.memory.pool[from..from + 16];
                 after.memory.archive.get_mut()[to..to + 16].copy_from_slice(version);
+                after.memory.owners.get_mut()[storage.flag_place(line)] = 1;
             }
             after.memory.groups.get_mut()[storage.group_place(frame, line)] &= !(1 << (frame % 16));
         }

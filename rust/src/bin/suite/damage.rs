@@ -8,7 +8,7 @@ impl Stored {
     /// Damage where it should not matter.
     pub fn harmless(&mut self, rng: &Rng) {
         let tag = self.state.registers.tag as usize;
-        match rng.below(12) {
+        match rng.below(14) {
             0 => self.turn_ring(rng),
             // entries of tags not used yet
             1 => {
@@ -53,10 +53,13 @@ impl Stored {
                         rng.pick(&[rng.word(), past, owner]);
                 }
             }
-            // a byte of the archive or of the pool: another history, unless the cache has the line
+            // a byte of a collected line in the archive, or of the pool: another history, unless the cache has the line
             7 => {
-                let archive = self.memory.archive.get_mut();
-                archive[rng.place(archive.len())] ^= 1 << rng.below(8);
+                let line = rng.below(self.state.registers.lines);
+                if self.storage().is_collected(line) {
+                    let at = 16 * line as usize + rng.place(16);
+                    self.memory.archive.get_mut()[at] ^= 1 << rng.below(8);
+                }
             }
             8 => {
                 let pool = self.memory.pool.get_mut();
@@ -73,6 +76,20 @@ impl Stored {
                 }
             }
             10 => self.state.cache.last[rng.place(16)] = rng.pick(&[0, 1, 2, 255]),
+            // the flag of a collected line: any number but 0 says so
+            11 => {
+                let line = rng.below(self.state.registers.lines);
+                let at = self.storage().flag_place(line);
+                if self.storage().is_collected(line) {
+                    self.memory.owners.get_mut()[at] = rng.pick(&[1, 2, 256, rng.word() | 1]);
+                }
+            }
+            // a line that is collected from now on, of zeros or not: another history
+            12 => {
+                let line = rng.below(self.state.registers.lines);
+                let at = self.storage().flag_place(line);
+                self.memory.owners.get_mut()[at] = rng.pick(&[1, 65536, u32::MAX]);
+            }
             // one more valid entry, in its place and right
             _ => {
                 if let (Some(entry), line) = (
@@ -236,7 +253,7 @@ impl Stored {
     /// Damage that only one clause of well-formedness notices, where the storage has the place for it.
     pub fn aimed(&mut self, rng: &Rng) {
         let tag = self.state.registers.tag;
-        match rng.below(18) {
+        match rng.below(20) {
             0 => {
                 // a tag of 9 bits, with an open entry past the need
                 self.lengthen(rng);
@@ -286,8 +303,22 @@ impl Stored {
                     ]);
                 }
             }
+            10 | 11 => self.spoil_archive(rng),
             _ => self.aimed_at_ring(rng),
         }
+    }
+
+    /// A line that was not collected with a byte in the archive that is not 0, by the byte or by the flag; the cache follows.
+    fn spoil_archive(&mut self, rng: &Rng) {
+        let line = rng.below(self.state.registers.lines);
+        let at = self.storage().flag_place(line);
+        if self.storage().is_collected(line) {
+            self.memory.owners.get_mut()[at] = 0;
+        } else {
+            let byte = 16 * line as usize + rng.place(16);
+            self.memory.archive.get_mut()[byte] = rng.pick(&[1, 128, 255]);
+        }
+        self.renew_entries();
     }
 
     /// A group's tag moved above the current one; its bits stay what they are.

@@ -86,7 +86,7 @@ fn cases() -> Vec<Vec<(Call, Answer)>> {
             (write(1, 2, 1), done(13)),
             (Rollback(2), done(0)),
             (read(4, 0), gives(305_419_896, Origin::Frame(0))),
-            (read(1, 16), gives(0, Origin::Archive)),
+            (read(1, 16), gives(0, Origin::Empty)),
             (Rollback(1), done(11)),
             (read(2, 1), refused_read(8)),
             (Counts, counts(1, 1)),
@@ -105,7 +105,7 @@ fn cases() -> Vec<Vec<(Call, Answer)>> {
             (reset(8, 16, 1), done(0)),
         ],
         vec![
-            (read(4, 124), gives(0, Origin::Archive)),
+            (read(4, 124), gives(0, Origin::Empty)),
             (read(4, 128), refused_read(9)),
             (read(2, 127), refused_read(8)),
             (read(3, 1), refused_read(7)),

@@ -28,7 +28,7 @@ impl Lengths {
             pool: 128 * pages,
             groups: frames / 16 * lines,
             table: frames * (lines / 8),
-            owners: pages,
+            owners: pages + lines,
             history: 256,
         }
     }

@@ -1,4 +1,4 @@
-//! A plain store with whole copies: each mark clones the memory. Written from document 01 alone; it knows nothing of written bits in
+//! A plain store with whole copies: each mark clones the memory. Written from document 01 and the requests alone; it knows nothing of written bits in
 //! groups, tags, tables or owners.
 use crate::call::{Answer, Call, Origin};
 use crate::memory::Lengths;
@@ -151,6 +151,8 @@ pub struct Set {
 pub struct Plain {
     pub settings: Settings,
     pub base: Vec<u8>,
+    /// "The base of the surviving history therefore holds, for each line, whether it was ever written."
+    pub ever: Vec<bool>,
     /// the live frames, oldest first
     pub frames: Vec<Frame>,
     pub sets: [Set; 16],
@@ -167,6 +169,7 @@ impl Plain {
                 pages: 0,
             },
             base: Vec::new(),
+            ever: Vec::new(),
             frames: Vec::new(),
             sets: [Set::default(); 16],
             clock: 2,
@@ -180,6 +183,7 @@ impl Plain {
             settings,
             frames: vec![Frame::over(base.clone())],
             base,
+            ever: vec![false; settings.lines as usize],
             ..Plain::blank()
         }
     }
@@ -276,11 +280,13 @@ impl Plain {
             }
             Call::Read { width, address } => {
                 let line = address / 16;
-                let origin = if self.holds(line) {
-                    Origin::Cache
-                } else {
-                    let back = self.marks_back(line as usize);
-                    back.map_or(Origin::Archive, Origin::Frame)
+                // "a read whose line no surviving write has touched gives value 0 and origin `e`, cached or not; `a` is left for lines that were
+                // collected"
+                let origin = match self.marks_back(line as usize) {
+                    None if !self.ever[line as usize] => Origin::Empty,
+                    _ if self.holds(line) => Origin::Cache,
+                    None => Origin::Archive,
+                    Some(back) => Origin::Frame(back),
                 };
                 let bytes = &self.last().memory[address as usize..(address + width) as usize];
                 let value = bytes.iter().fold(0, |v, byte| v * 256 + u32::from(*byte));
@@ -317,6 +323,11 @@ impl Plain {
             }
             Call::Advance(k) => {
                 self.base = self.frames[k as usize - 1].memory.clone();
+                for frame in &self.frames[..k as usize] {
+                    for (ever, written) in self.ever.iter_mut().zip(&frame.written) {
+                        *ever |= written;
+                    }
+                }
                 self.frames.drain(..k as usize);
             }
             Call::Counts => {
@@ -345,6 +356,7 @@ impl Plain {
         is_same_cache
             && self.settings == other.settings
             && self.base == other.base
+            && self.ever == other.ever
             && self.frames == other.frames
     }
 }

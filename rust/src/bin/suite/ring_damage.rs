@@ -127,7 +127,7 @@ impl Stored {
         Some(page)
     }
 
-    /// R3: a page past the pool, with a number P above that of a page of the segment.
+    /// R3: a page past the pool, with a number P above that of a page of the segment. Its owner stands where lines' flags are, or behind them.
     fn page_past_pool(&mut self, pages: Vec<Page>, rng: &Rng) {
         self.lengthen(rng);
         if let Some(page) = self.taken_out(pages, 2, rng) {

@@ -49,9 +49,11 @@ pub enum Clause {
     Bytes,
     /// and the most recent version's frame
     Frame,
+    /// a line that was not collected is zero in the archive
+    Archive,
 }
 
-pub const CLAUSES: [Clause; 20] = [
+pub const CLAUSES: [Clause; 21] = [
     Clause::TagBelow,
     Clause::TagsKnown,
     Clause::OpenTag,
@@ -72,6 +74,7 @@ pub const CLAUSES: [Clause; 20] = [
     Clause::Once,
     Clause::Bytes,
     Clause::Frame,
+    Clause::Archive,
 ];
 
 pub const ARCHIVE: u16 = 65535;
@@ -162,6 +165,16 @@ impl<'a> Storage<'a> {
         &self.memory.archive[16 * line as usize..16 * line as usize + 16]
     }
 
+    /// The flag of a line lies behind the owners of the P pages.
+    pub fn flag_place(&self, line: u32) -> usize {
+        (self.state.registers.pages + line) as usize
+    }
+
+    /// 0 is never collected, any other number collected.
+    pub fn is_collected(&self, line: u32) -> bool {
+        self.memory.owners[self.flag_place(line)] != 0
+    }
+
     /// Frame and bytes of a line's most recent version. Past L there is nothing but zeros.
     pub fn recent(&self, line: u32) -> (u16, Option<&'a [u8]>) {
         if line >= self.state.registers.lines {
@@ -185,6 +198,9 @@ impl<'a> Storage<'a> {
         self.segment(&mut hold);
         self.places(&mut hold);
         self.cache(&mut hold);
+        let mut lines = 0..self.state.registers.lines;
+        let is_collected_or_zero = |line| self.is_collected(line) || self.archived(line) == [0; 16];
+        hold(Clause::Archive, lines.all(is_collected_or_zero));
         failing
     }
 
@@ -285,6 +301,8 @@ impl<'a> Storage<'a> {
         let state = self.state;
         let mut plain = Plain::new(settings_of(state));
         plain.base = self.memory.archive[..16 * state.registers.lines as usize].to_vec();
+        let lines = 0..state.registers.lines;
+        plain.ever = lines.map(|line| self.is_collected(line)).collect();
         plain.frames.clear();
         let mut memory = plain.base.clone();
         for index in 0..self.live() {

@@ -86,7 +86,7 @@ pub fn random_storage(rng: &Rng) -> Stored {
     stored
 }
 
-/// A table of pages of the pool and owners that are places, still in any order.
+/// A table of pages of the pool and owners, the flags with them, that are places, still in any order.
 fn own_pages(stored: &mut Stored, settings: Settings, rng: &Rng) {
     let owner = || owner_of(rng.below(settings.frames), rng.below(settings.lines / 8));
     stored.memory.owners.get_mut().fill_with(owner);

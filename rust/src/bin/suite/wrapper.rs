@@ -31,6 +31,7 @@ fn read(call: Call, answer: Result<Reading, Refusal>) -> Answer {
                 vcm::Origin::Archive => Origin::Archive,
                 vcm::Origin::Frame(back) => Origin::Frame(back),
                 vcm::Origin::Cache => Origin::Cache,
+                vcm::Origin::Empty => Origin::Empty,
             },
         },
         Err(refusal) => Answer::refused(call, refusal.number()),

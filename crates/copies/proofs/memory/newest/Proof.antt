@@ -1,5 +1,6 @@
 -- `copies::newest` is safe and ends. Assumes nothing.
 use borrow.Author.Needs.{needs}
+use borrow.Author.Needs.{needs}
 use Prim.Native.Nat.{_-_, _≤_}
 use Rattle.copies.proofs.memory.newest.Statement.{statement}
 use Rattle.copies.proofs.memory.newest.Tie as tie
@@ -13,14 +14,11 @@ abbrev μ-loop : tie.MeasureT-loop
 loop-holds : tie.Need-loop-holds Inv-loop μ-loop
 loop-holds c = search needs
 
-sub-bits : tie.Need-sub-bits Inv-loop μ-loop
-sub-bits c = search needs
+sub-is-written : tie.Need-sub-is-written Inv-loop μ-loop
+sub-is-written c = search needs
 
-bits-requires : tie.Need-bits-requires Inv-loop μ-loop
-bits-requires c κs = tt
-
-shr-if1 : tie.Need-shr-if1 Inv-loop μ-loop
-shr-if1 c = search needs
+is-written-requires : tie.Need-is-written-requires Inv-loop μ-loop
+is-written-requires c κs = tt
 
 returns : tie.Need-returns Inv-loop μ-loop
 returns c = search needs
@@ -34,8 +32,14 @@ loop-less c = search needs
 loop-again : tie.Need-loop-again Inv-loop μ-loop
 loop-again c = search needs
 
+is-written-requires-2 : tie.Need-is-written-requires-2 Inv-loop μ-loop
+is-written-requires-2 c κs = tt
+
 returns-2 : tie.Need-returns-2 Inv-loop μ-loop
 returns-2 c = search needs
+
+returns-3 : tie.Need-returns-3 Inv-loop μ-loop
+returns-3 c = search needs
 
 pub newest-spec : {M : Type 1} → statement M
 newest-spec =
@@ -44,11 +48,12 @@ newest-spec =
     Inv-loop
     μ-loop
     loop-holds
-    sub-bits
-    bits-requires
-    shr-if1
+    sub-is-written
+    is-written-requires
     returns
     add-back
     loop-less
     loop-again
-    returns-2)
+    is-written-requires-2
+    returns-2
+    returns-3)

@@ -2,7 +2,6 @@
 use borrow.Author.Needs.{needs}
 use Prim.Native.Nat.{_-_}
 use native.Mathlib.Omega.{arith}
-use borrow.Author.Needs.{needs}
 use Rattle.wellformed.specs.Parts.{CollectedOrZero}
 use Rattle.wellformed.proofs.Deciding.{says-yes, passes, part-fails, AllBelow, all-start, all-next, all-end}
 use Rattle.wellformed.proofs.Archives.{archive-asks}

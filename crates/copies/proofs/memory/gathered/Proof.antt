@@ -1,6 +1,5 @@
 -- `copies::gathered` is safe and ends. Assumes nothing.
 use borrow.Author.Needs.{needs}
-use borrow.Author.Needs.{needs}
 use Prim.Native.Nat.{_-_, _≤_}
 use Rattle.copies.proofs.memory.gathered.Statement.{statement}
 use Rattle.copies.proofs.memory.gathered.Tie as tie

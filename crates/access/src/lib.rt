@@ -1,5 +1,7 @@
 // The calls that look at a line: READ, LINE and its companion. They take the registers by value and the cache's arrays where they lie, so that
 // nothing of the cache is copied. `store` has the same calls on a whole state by value, `vcm` exports them.
+#![tactic(auto)]
+
 ghost use Rattle.std.specs.Prelude.{◌≡◌};
 ghost use Rattle.rules.specs.Refusal.{line_refusal};
 ghost use Rattle.rules.specs.Call.Answer.{outcome, lending};
@@ -18,7 +20,7 @@ use storage::Registers;
 use versions::{Origin, Spot, Version};
 
 // The value of a read and its origin, with the refusal or 0.
-#[derive(Drop)]
+#[derive(Clone, Copy)]
 pub struct Reading {
     pub refusal: u32,
     pub value: u32,

@@ -1,5 +1,7 @@
 // What crosses the C border in another form than it has inside: the registers, which are lent where they lie, as an array of eight numbers, an
 // origin as two numbers, and LINE's part as a copy.
+#![tactic(auto)]
+
 ghost use Rattle.std.specs.Prelude.{◌≡◌, length};
 ghost use Rattle.storage.specs.Steps.{given_registers};
 ghost use Rattle.versions.specs.Newest.{origin_of};

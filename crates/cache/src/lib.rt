@@ -1,5 +1,7 @@
 // The cache: 16 sets of two ways, a struct by value. The functions take its arrays where they lie, and are safe on any contents of them.
 // Those with a `requires` are called by our own crates alone, which test what it asks, or hand on what `find` gave.
+#![tactic(auto)]
+
 ghost use Rattle.std.specs.Prelude.{◌≡◌, ◌*◌, ◌/◌, ◌%◌, ◌<◌, length, get_or};
 ghost use Rattle.std.proofs.Math.ListN;
 ghost use Rattle.rules.specs.Figure3.{empty_cache};
@@ -12,7 +14,7 @@ ghost use Rattle.cache.specs.Shown.{shown};
 
 // The entry of a set's way is 2 * set + way.
 #[repr(C)]
-#[derive(Drop)]
+#[derive(Clone, Copy)]
 pub struct Cache {
     // the line that the entry holds
     pub held: [u32; 32],
@@ -29,7 +31,7 @@ pub struct Cache {
 pub const ARCHIVE: u16 = 65535;
 
 // The entry that holds a line.
-#[derive(Drop)]
+#[derive(Clone, Copy)]
 pub enum Entry {
     Hit(u32),
     Miss,

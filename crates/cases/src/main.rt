@@ -1,4 +1,6 @@
 // Runs the document's cases at the edges and long pseudo-random runs on the store beside a second plain store, and compares every answer.
+#![tactic(auto)]
+
 mod block;
 mod subject;
 mod tally;
@@ -14,7 +16,7 @@ use store::State;
 use subject::Told;
 
 // Both stores, where the rows and the run are, the kind of the last call, and the counts.
-#[derive(Drop)]
+#[derive(Clone, Copy)]
 struct Game {
     state: State,
     plain: Plain,

@@ -8,7 +8,7 @@ use copies::{Answer, Call, Lengths, Plain, pieces};
 use store::{Origin, Outcome, State};
 
 // The state after a call, its answer, and those to the items of a block.
-#[derive(Drop)]
+#[derive(Clone, Copy)]
 pub struct Told {
     pub state: State,
     pub answer: Answer,
@@ -16,7 +16,7 @@ pub struct Told {
 }
 
 // A call that was made, and how much of each piece was lent to it.
-#[derive(Drop)]
+#[derive(Clone, Copy)]
 pub struct Played {
     pub told: Told,
     pub lent: Lengths,

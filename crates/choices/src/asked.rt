@@ -3,7 +3,7 @@ use copies::{Call, Lengths, Plain};
 
 // How the memory is lent: 0, as long as needed; 1 to 6, the archive, the pool, the groups, the table, the owners or the history an element
 // short; 7, all that there is; 8, the same, on the blank state.
-#[derive(Drop)]
+#[derive(Clone, Copy)]
 pub struct Asked {
     pub call: Call,
     pub lent: u32,

@@ -5,7 +5,7 @@ use std::num::{wrapping_add_usize, wrapping_sub_usize};
 
 // A run: settings, how many calls are left, every how many COUNTS and CHECK are asked, the seed; and of the rows the place, that of the list
 // of items, and how the memory is lent to them.
-#[derive(Drop)]
+#[derive(Clone, Copy)]
 pub struct Run {
     pub lines: usize,
     pub frames: usize,
@@ -34,7 +34,7 @@ fn rest(n: usize, by: usize) -> usize {
 }
 
 // Of 64 calls, those below each number are marks, then rollbacks, then advances.
-#[derive(Drop)]
+#[derive(Clone, Copy)]
 struct Mix {
     marks: usize,
     backs: usize,

@@ -4,7 +4,7 @@ use std::num::wrapping_add_usize;
 
 // Answers by refusal, 0 for accepted; origins in the places 1 to 3 and 46; calls by kind from 15 on; the answers to the items of
 // accepted blocks from 34 on; what is named below; and by their refusals, 44 and 45, blocks that got 5 and 6 with too few answers.
-#[derive(Drop)]
+#[derive(Clone, Copy)]
 pub struct Tally {
     pub n: [usize; 48],
 }

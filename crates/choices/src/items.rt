@@ -31,7 +31,7 @@ pub fn answers_lent(call: Call) -> usize
 }
 
 // A WRITE for an item, and where the next one comes from.
-#[derive(Drop)]
+#[derive(Clone, Copy)]
 struct Item {
     asked: Asked,
     next: usize,

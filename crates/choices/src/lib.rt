@@ -1,4 +1,6 @@
 // The calls of a test: rows of text, and pseudo-random runs; and what they covered.
+#![tactic(auto)]
+
 pub mod asked;
 pub mod choice;
 pub mod counts;

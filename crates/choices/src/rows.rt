@@ -18,14 +18,14 @@ pub const ITEM: u32 = 14;
 pub const END: u32 = 15;
 
 // A call, and where the rows and the run are behind it.
-#[derive(Drop)]
+#[derive(Clone, Copy)]
 pub struct Turn {
     pub asked: Asked,
     pub run: Run,
 }
 
 // A row as far as it is read; `next` is behind it.
-#[derive(Drop)]
+#[derive(Clone, Copy)]
 pub struct Row {
     pub kind: u32,
     pub fields: [usize; 8],

@@ -3,7 +3,7 @@ use crate::memory::times;
 use std::num::wrapping_add_usize;
 
 // The elements of each piece: bytes of the archive and the pool, numbers of the others.
-#[derive(Drop)]
+#[derive(Clone, Copy)]
 pub struct Lengths {
     pub archive: usize,
     pub pool: usize,

@@ -1,4 +1,6 @@
 // A second plain store with whole copies: after every mark the whole memory is copied. It is fed the calls and the lent lengths alone.
+#![tactic(auto)]
+
 mod items;
 mod lengths;
 mod memory;
@@ -44,7 +46,7 @@ pub const ARCHIVE: usize = 1001;
 pub const EMPTY: usize = 1002;
 
 // A call, on the store's state or on the blank one.
-#[derive(Drop)]
+#[derive(Clone, Copy)]
 pub struct Call {
     pub kind: u32,
     // RESET: L, F, P; WRITE: width, address, value; READ: width, address; LINE: number; ROLLBACK, ADVANCE: k; BLOCK: how many items and answers,
@@ -57,7 +59,7 @@ pub struct Call {
 
 // What a call answers. READ: value and origin; LINE: bytes as two numbers and how many they are; COUNTS: live frames and pages; CHECK: 1;
 // BLOCK: how many items were accepted.
-#[derive(Drop)]
+#[derive(Clone, Copy)]
 pub struct Answer {
     pub refusal: usize,
     pub first: usize,
@@ -74,7 +76,7 @@ pub fn is_same(a: Answer, b: Answer) -> bool {
 
 // The settings, how many frames are live, and the cache; and what was seen: whether 13 was given since the last page was given out, how
 // often a page was given out after that, and the most live frames.
-#[derive(Drop)]
+#[derive(Clone, Copy)]
 pub struct Plain {
     pub lines: usize,
     pub frames: usize,
@@ -87,7 +89,7 @@ pub struct Plain {
 }
 
 // The plain store after a call, and its answer.
-#[derive(Drop)]
+#[derive(Clone, Copy)]
 pub struct Reply {
     pub plain: Plain,
     pub answer: Answer,

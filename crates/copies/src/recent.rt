@@ -6,7 +6,7 @@ use std::num::wrapping_add_usize;
 const NONE: usize = 4294967295;
 
 // A set's two ways are the entries set and set + 16. A conflict is a valid entry that made room for another line.
-#[derive(Drop)]
+#[derive(Clone, Copy)]
 pub struct Cache {
     pub lines: [usize; 32],
     pub last: [usize; 16],

@@ -1,5 +1,7 @@
 // The circle of frames: frame numbers are put in order only by their index from OMF. The pool's pages turn on it too, from the page where the
 // needed ones start. The functions are called by our own crates alone, which test what a `requires` asks.
+#![tactic(auto)]
+
 ghost use Rattle.std.specs.Prelude.{◌≡◌, ◌+◌, ◌%◌};
 ghost use Rattle.rules.specs.Registers.{live_between};
 ghost use Rattle.frames.specs.Circle.{Turn, index_of, frame_at};

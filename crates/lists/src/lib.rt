@@ -1,5 +1,7 @@
 // Lists rewritten element by element, and lines of 16 bytes and values of some bytes in lists of bytes. The functions are called by our own
 // crates alone, which test what a `requires` asks.
+#![tactic(auto)]
+
 ghost use Rattle.std.specs.Prelude.{◌≡◌, ◌+◌, ◌≤◌, length};
 ghost use Rattle.rules.specs.Line.{value_at, edit};
 ghost use Rattle.lists.specs.Lines.{line_at, paste_line, AsksValue};

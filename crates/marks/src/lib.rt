@@ -1,5 +1,7 @@
 // The calls on frames: MARK, ROLLBACK, ADVANCE and COUNTS. They take the registers by value and, of the cache, the arrays that they look at
 // where they lie. `store` has the same calls on a whole state by value, `vcm` exports them.
+#![tactic(auto)]
+
 ghost use Rattle.rules.specs.Call.Answer.{counting};
 ghost use Rattle.rules.specs.Call.Look.{COUNTS};
 ghost use Rattle.storage.specs.Storage.{memory_of};
@@ -9,7 +11,7 @@ use storage::{Registers, Step};
 
 // The live frames and the pages needed, with the refusal or 0.
 #[repr(C)]
-#[derive(Drop)]
+#[derive(Clone, Copy)]
 pub struct Counted {
     pub refusal: u32,
     pub live: u32,

@@ -1,11 +1,13 @@
 // Numbers: what all arithmetic here is made of, and written bits as binary digits. The functions with a `requires` are called by our own
 // crates alone, which test what it asks.
+#![tactic(auto)]
+
 ghost use Rattle.std.specs.Prelude.{◌≡◌};
 ghost use Prim.Native.Nat.{◌<◌, ◌^◌};
 ghost use Rattle.numbers.specs.Digits.{Ends, range_of, set_at, newest_bit, bit, unset_at};
 
 // A place that a search finds.
-#[derive(Drop)]
+#[derive(Clone, Copy)]
 pub enum Found {
     At(u32),
     Nothing,

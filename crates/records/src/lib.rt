@@ -1,4 +1,6 @@
 // The records of a session: what a line asks for.
+#![tactic(auto)]
+
 ghost use Rattle.std.specs.Prelude.{◌≡◌, ◌≤◌, length, drop, get_or};
 ghost use Rattle.records.specs.Records.{same_text, taken, seldom, rows, word_in, numbers_in, parsed};
 ghost use Rattle.records.specs.Shown.{fields_behind, Gathers, numbers_of, shown_parsed};
@@ -6,7 +8,7 @@ ghost use Rattle.records.specs.Shown.{fields_behind, Gathers, numbers_of, shown_
 use text::Number;
 
 // What a record asks for.
-#[derive(Drop)]
+#[derive(Clone, Copy)]
 pub enum Word {
     Reset,
     Read,
@@ -18,7 +20,7 @@ pub enum Word {
 }
 
 // A record: a word and the first so many numbers.
-#[derive(Drop)]
+#[derive(Clone, Copy)]
 pub struct Record {
     pub word: Word,
     pub count: usize,
@@ -26,21 +28,21 @@ pub struct Record {
 }
 
 // What a line says: a record, or why it is turned down.
-#[derive(Drop)]
+#[derive(Clone, Copy)]
 pub struct Parsed {
     pub refusal: u32,
     pub entry: Record,
 }
 
 // The word of a record, if there is one.
-#[derive(Drop)]
+#[derive(Clone, Copy)]
 enum Known {
     Named(Word),
     Unknown,
 }
 
 // The numbers of a line, if each of its fields says one and no record has more.
-#[derive(Drop)]
+#[derive(Clone, Copy)]
 struct Numbers {
     good: bool,
     count: usize,

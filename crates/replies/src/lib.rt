@@ -1,4 +1,6 @@
 // A record's call, and its answer as text.
+#![tactic(auto)]
+
 ghost use Rattle.std.specs.Prelude.{◌≡◌, ◌∷◌, ◌+◌, ◌≤◌, length};
 ghost use Rattle.text.specs.Numbers.{decimal};
 ghost use Rattle.text.specs.Output.{Puts};
@@ -13,7 +15,7 @@ use records::{Record, Word};
 use store::{Origin, Outcome, State};
 
 // What stands behind `ok`.
-#[derive(Drop)]
+#[derive(Clone, Copy)]
 pub enum Shown {
     Nothing,
     Read(u32, Origin),
@@ -93,7 +95,7 @@ pub fn put_end(out: &mut [u8], at: usize, oks: u64, noes: u64) -> usize
 }
 
 // What a call gave: the state, the refusal or 0, and what an answer line shows of it.
-#[derive(Drop)]
+#[derive(Clone, Copy)]
 pub struct Reply {
     pub state: State,
     pub refusal: u32,

@@ -130,10 +130,10 @@ module _ (K : Kind) where
       → (ns : List ℕ) × (given ≡ outcomes ns) × Singly K s ws ns t
   unfolding refused
   run-singly [] stop = ([], refl, stop)
-  run-singly (w ∷ ws) (next {s = s} {t = t} {a = a} {answers = given} h rest) =
+  run-singly {s = s} {t = u} (w ∷ ws) (next {t = t} {a = a} {answers = given} h rest) =
       let n : ℕ = refusal (facts_of K s) h.lacking (ON (write_of w)) in
       let is : a ≡ outcome n = outcome-form a n h.number in
-      let later = run-singly ws rest in
+      let later = run-singly {s = t} {t = u} ws rest in
       (n ∷ later.0, ap₂ (λ (x : Answer) (xs : List Answer). x ∷ xs) is later.1, next (subst (λ (x : Answer). Promise K (ON (write_of w)) s x t) is h) later.2)
 
   -- All that an accepted block of writes is, on any storage.

@@ -1,12 +1,14 @@
 // The sizing call. The rest of this crate is specs/, the written rules that every contract of the store cites, and proofs/,
 // what is proved of them.
+#![tactic(auto)]
+
 ghost use Rattle.std.specs.Prelude.{◌≡◌};
 ghost use Rattle.rules.specs.Settings.{Settings, within};
 ghost use Rattle.rules.specs.Sizing.{settings_of, sizing};
 
 // How many bytes of each piece of lent memory a store needs. Where refusal is not 0, every size is 0.
 #[repr(C)]
-#[derive(Drop)]
+#[derive(Clone, Copy)]
 pub struct Need {
     pub refusal: u32,
     pub archive: usize,

@@ -1,5 +1,7 @@
 // Reads a session on standard input and writes its transcript to standard output. All that it answers is the crate `session`'s; here is only
 // reading, calling and writing.
+#![tactic(auto)]
+
 ghost use Rattle.std.specs.Prelude.{◌≡◌, ◌≤◌, length};
 ghost use Rattle.store.specs.Shown.{lent_of, lent_lengths};
 ghost use Rattle.replies.specs.Answers.{longest};
@@ -10,7 +12,7 @@ use libc::{STDIN_FILENO, STDOUT_FILENO};
 use session::Runner;
 
 // The runner after a read, whether to go on, and whether all went well.
-#[derive(Drop)]
+#[derive(Clone, Copy)]
 struct Read {
     runner: Runner,
     more: bool,

@@ -1,4 +1,6 @@
 // A session: its lines in, their answers out, over the store's promises.
+#![tactic(auto)]
+
 ghost use Rattle.std.specs.Prelude.{◌≡◌, [], ◌≤◌, length};
 ghost use Rattle.records.specs.Records.{parsed};
 ghost use Rattle.records.specs.Shown.{shown_parsed};
@@ -14,7 +16,7 @@ use tally::Tally;
 use text::Reader;
 
 // The runner between two bytes of its input: the store's state and whether a reset was accepted, the tally, and the line that is not whole yet.
-#[derive(Drop)]
+#[derive(Clone, Copy)]
 pub struct Runner {
     pub state: State,
     pub started: bool,
@@ -23,7 +25,7 @@ pub struct Runner {
 }
 
 // What lines leave: the state, whether a reset was accepted, and the tally; how far their text was taken, and the output filled.
-#[derive(Drop)]
+#[derive(Clone, Copy)]
 struct Answered {
     state: State,
     started: bool,
@@ -33,7 +35,7 @@ struct Answered {
 }
 
 // The runner after some bytes of input, how many they were, and how many bytes of output it put.
-#[derive(Drop)]
+#[derive(Clone, Copy)]
 pub struct Fed {
     pub runner: Runner,
     pub used: usize,

@@ -1,4 +1,6 @@
 // The state and the lent memory of a store, and the tests of settings, state and lent lengths that come before every call.
+#![tactic(auto)]
+
 ghost use Rattle.std.specs.Prelude.{◌≡◌, true, ◌%◌, ◌^◌, ◌≤◌, ltb};
 ghost use Rattle.rules.specs.Settings.{covers};
 ghost use Rattle.rules.specs.Sizing.{settings_of};
@@ -14,7 +16,7 @@ use written::Shape;
 // The settings L, F and P, the registers CMF and OMF, the tag that a write gives, and of the ring of pages its first one and how many are
 // needed from there on.
 #[repr(C)]
-#[derive(Drop)]
+#[derive(Clone, Copy)]
 pub struct Registers {
     pub lines: u32,
     pub frames: u32,
@@ -29,21 +31,21 @@ pub struct Registers {
 // The state may hold anything: each call tests it first. Programs pass it by value; the calls themselves take the registers by value and
 // the cache's arrays where they lie.
 #[repr(C)]
-#[derive(Drop)]
+#[derive(Clone, Copy)]
 pub struct State {
     pub registers: Registers,
     pub cache: Cache,
 }
 
 // The pages in use after a WRITE or a block of them, which leave the other registers as they are, and the refusal or 0.
-#[derive(Drop)]
+#[derive(Clone, Copy)]
 pub struct Given {
     pub used: u32,
     pub refusal: u32,
 }
 
 // The registers after a call, and its refusal or 0.
-#[derive(Drop)]
+#[derive(Clone, Copy)]
 pub struct Step {
     pub registers: Registers,
     pub refusal: u32,
@@ -51,14 +53,14 @@ pub struct Step {
 
 // The state after a call, and its refusal or 0.
 #[repr(C)]
-#[derive(Drop)]
+#[derive(Clone, Copy)]
 pub struct Outcome {
     pub state: State,
     pub refusal: u32,
 }
 
 // The lengths of the lent pieces, in elements.
-#[derive(Drop)]
+#[derive(Clone, Copy)]
 pub struct Lengths {
     pub archive: usize,
     pub pool: usize,

@@ -1,5 +1,7 @@
 // The store: every call of document 01, in memory that the caller lends, on a state that goes in and comes back by value. RESET and CHECK are
 // done here; the other calls are those of `access`, `writing`, `write_blocks` and `marks`, which take the cache's arrays where they lie.
+#![tactic(auto)]
+
 ghost use Rattle.std.specs.Prelude.{◌≡◌};
 ghost use Rattle.rules.specs.Call.Answer.{outcome, lending, counting, verdict};
 ghost use Rattle.rules.specs.Call.Look.{LINE, LINE_REFUSAL, COUNTS};
@@ -23,7 +25,7 @@ pub use versions::Origin;
 use written::Shape;
 
 // The value of a read and its origin, with the refusal or 0.
-#[derive(Drop)]
+#[derive(Clone, Copy)]
 pub struct Reading {
     pub state: State,
     pub refusal: u32,
@@ -32,7 +34,7 @@ pub struct Reading {
 }
 
 // CHECK's answer, with the refusal or 0.
-#[derive(Drop)]
+#[derive(Clone, Copy)]
 pub struct Verdict {
     pub refusal: u32,
     pub yes: bool,

@@ -1,8 +1,10 @@
 // The tally of a session: how many lines were answered with `ok` and how many with `no`.
+#![tactic(auto)]
+
 ghost use Rattle.std.specs.Prelude.{◌≡◌};
 ghost use Rattle.tally.specs.Counts.{one_more, tally_after};
 
-#[derive(Drop)]
+#[derive(Clone, Copy)]
 pub struct Tally {
     pub oks: u64,
     pub noes: u64,

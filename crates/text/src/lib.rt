@@ -1,4 +1,6 @@
 // Text in bytes: numbers read and written, where a part ends, and the beginning of a line that a chunk's end cuts.
+#![tactic(auto)]
+
 ghost use Rattle.std.specs.Prelude.{◌≡◌, [], true, ◌+◌, ◌-◌, ◌≤◌, ◌<◌, length, drop};
 ghost use Rattle.text.specs.Parts.{up_to};
 ghost use Rattle.text.specs.Output.{Puts};
@@ -6,7 +8,7 @@ ghost use Rattle.text.specs.Lines.{Holds, Extends, Ended};
 ghost use Rattle.text.specs.Numbers.{is_digit, field_number, decimal};
 
 // What a field says as a number.
-#[derive(Drop)]
+#[derive(Clone, Copy)]
 pub enum Number {
     Is(u32),
     Not,
@@ -120,7 +122,7 @@ pub fn part_end(bytes: &[u8], from: usize, separator: u8) -> usize
 
 // The first bytes of a line that is not whole yet: as many as are looked at, which is one more than a line may have. There is room for a line
 // feed behind them.
-#[derive(Drop)]
+#[derive(Clone, Copy)]
 pub struct Reader {
     pub kept: [u8; 82],
     pub count: usize,

@@ -1,4 +1,6 @@
 // Feeds test sessions to the library in chunks of 1, 7 and 4,096 bytes, with output buffers of several sizes, and prints their transcripts.
+#![tactic(auto)]
+
 mod sessions;
 
 ghost use Rattle.std.specs.Prelude.{◌+◌, ◌≤◌, ◌<◌, length};

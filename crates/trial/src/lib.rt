@@ -1,4 +1,6 @@
 // A client of the store: it uses the store's calls alone, and its contract speaks of the plain store alone.
+#![tactic(auto)]
+
 ghost use Rattle.std.specs.Prelude.{◌≡◌, [], ◌∷◌};
 ghost use Rattle.rules.specs.Sizing.{settings_of};
 ghost use Rattle.rules.specs.Call.Answer.{outcome, reading};
@@ -12,7 +14,7 @@ ghost use Rattle.store.specs.Shown.{lent_lengths, shown_origin};
 use store::{Origin, State};
 
 // The refusals of a trial's calls, or 0, and what it reads in the end.
-#[derive(Drop)]
+#[derive(Clone, Copy)]
 pub struct Trial {
     pub state: State,
     pub reset: u32,

@@ -2,6 +2,8 @@
 // an inline function for each that takes a pointer to the state and one to the memory. A lent piece crosses as its address and its
 // count of elements, the registers and the cache's arrays where they lie; RESET and CHECK, which go over the whole store, take the
 // state by value. No struct that crosses has a bool or an enum, so that every byte that a caller may hand over is a value.
+#![tactic(auto)]
+
 ghost use Rattle.std.specs.Prelude.{◌≡◌};
 ghost use Rattle.rules.specs.Sizing.{settings_of, sizing};
 ghost use Rattle.rules.specs.Call.Answer.{outcome, counting};
@@ -17,7 +19,7 @@ use store::{Counted, Need, Outcome, State};
 
 // The value of a read and its origin, with the refusal or 0.
 #[repr(C)]
-#[derive(Drop)]
+#[derive(Clone, Copy)]
 pub struct Reading {
     pub refusal: u32,
     pub value: u32,
@@ -27,7 +29,7 @@ pub struct Reading {
 
 // CHECK's answer, 1 for yes, with the refusal or 0.
 #[repr(C)]
-#[derive(Drop)]
+#[derive(Clone, Copy)]
 pub struct Verdict {
     pub refusal: u32,
     pub yes: u32,

@@ -1,5 +1,7 @@
 // The block of writes exported to C and Rust, as the calls of `vcm` are. It stands in a crate of its own, and so in a part of its own of the static
 // library: the compiler then has one caller of WRITE's body in each part and puts it there, and a program that makes no block does not link it.
+#![tactic(auto)]
+
 ghost use Rattle.cache.specs.Entries.{cache_of};
 ghost use Rattle.storage.specs.Storage.{state_of, storage_of};
 ghost use Rattle.storage.specs.Clauses.{WritesBlock};

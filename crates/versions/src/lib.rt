@@ -1,6 +1,8 @@
 // Versions of lines in lent memory: where the newest one stands and its bytes, folding versions into the archive, and putting a new one
 // in its page. Every function is safe on any contents, but for `clear`, which comes behind `fold` and goes over the pages that this found;
 // what the `requires` ask of numbers and lengths is tested by the store, and only our own crates call them.
+#![tactic(auto)]
+
 ghost use Rattle.std.specs.Prelude.{◌≡◌, ◌+◌, ◌*◌, ◌/◌, ◌%◌, ◌≤◌, ◌<◌, length, get_or};
 ghost use Rattle.std.proofs.Math.ListN;
 ghost use Rattle.frames.specs.Circle.{frame_at};
@@ -20,7 +22,7 @@ use pages::Ring;
 use written::Shape;
 
 // Where a version stands: in a page of the pool, in the slot of its line, or in the archive.
-#[derive(Drop)]
+#[derive(Clone, Copy)]
 pub enum Spot {
     Page(u32),
     Archive,
@@ -28,7 +30,7 @@ pub enum Spot {
 
 // Where a read finds its line: in the cache, in the frame that lies so many marks back, in the archive, or nowhere: no surviving write has
 // touched it.
-#[derive(Drop)]
+#[derive(Clone, Copy)]
 pub enum Origin {
     Cache,
     Frame(u32),
@@ -37,7 +39,7 @@ pub enum Origin {
 }
 
 // The most recent version of a line: its bytes, the number of its frame as the cache has it, and its origin.
-#[derive(Drop)]
+#[derive(Clone, Copy)]
 pub struct Version {
     pub content: [u8; 16],
     pub frame: u16,
@@ -45,7 +47,7 @@ pub struct Version {
 }
 
 // The page that a write goes to, if there is one, and how many pages are in use then.
-#[derive(Drop)]
+#[derive(Clone, Copy)]
 pub struct Choice {
     pub page: Found,
     pub used: u32,

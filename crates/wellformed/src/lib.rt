@@ -1,5 +1,7 @@
 // Whether the parts of a store's storage are well-formed: CHECK's tests. Every function is safe on any contents; what the `requires` ask of
 // numbers and lengths is tested by the store, and only our own crates call them.
+#![tactic(auto)]
+
 ghost use Rattle.std.specs.Prelude.{◌≡◌, true, ◌+◌, ◌*◌, ◌/◌, ◌%◌, ◌≤◌, ◌<◌, length};
 ghost use Rattle.rules.specs.Sizing.{settings_of};
 ghost use Rattle.rules.specs.Figure3.{WellCache};

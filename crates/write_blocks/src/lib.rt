@@ -1,5 +1,7 @@
 // A block of writes: many WRITEs in one call. 5, 6 and 14 are tested once; each item is then done as a single WRITE is. The registers go by
 // value and the cache's arrays are changed where they lie, as in `writing`.
+#![tactic(auto)]
+
 ghost use Rattle.std.specs.Prelude.{◌≡◌, ◌/◌, ◌<◌, length};
 ghost use Rattle.cache.specs.Entries.{cache_of};
 ghost use Rattle.storage.specs.Storage.{state_of, storage_of};
@@ -10,7 +12,7 @@ ghost use Rattle.write_blocks.specs.Items.{item_of, item_at, items_of};
 use storage::{Given, Registers};
 
 // An item: a single WRITE.
-#[derive(Drop)]
+#[derive(Clone, Copy)]
 struct Item {
     width: u32,
     address: u32,

@@ -1,5 +1,7 @@
 // WRITE, on the registers by value and the cache's arrays where they lie, so that nothing of the cache is copied. `store` has it on a whole state by
 // value, `write_blocks` makes many in one call, `vcm` exports it.
+#![tactic(auto)]
+
 ghost use Rattle.std.specs.Prelude.{◌≡◌, ◌*◌, ◌/◌, ◌%◌};
 ghost use Rattle.std.proofs.Math.ListN;
 ghost use Rattle.rules.specs.Line.{line_of, offset_of, edit};

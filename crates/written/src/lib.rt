@@ -1,5 +1,7 @@
 // Written bits and the rollback history, in lent lists. Every function is safe on any contents of the lists; what the `requires` ask
 // of numbers and lengths is tested by the store. Only our own crates call them.
+#![tactic(auto)]
+
 ghost use Rattle.std.specs.Prelude.{◌≡◌, ◌+◌, ◌*◌, ◌/◌, ◌≤◌, ◌<◌, length, get_or};
 ghost use Rattle.std.proofs.Math.ListN;
 ghost use Rattle.rules.specs.Seen.{needs};
@@ -10,7 +12,7 @@ ghost use Rattle.written.specs.Steps.{AsksWindow, AsksReset, regrouped, with_wri
 use numbers::Found;
 
 // What places the lent lists: L, the circle of frames and OMF.
-#[derive(Drop)]
+#[derive(Clone, Copy)]
 pub struct Shape {
     pub lines: u32,
     pub frames: u32,

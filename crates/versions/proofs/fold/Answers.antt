@@ -51,8 +51,8 @@ pub loop-i-preserved : goal.loop-i-preserved
 loop-i-preserved c =
     let i = c.loop-i.invariant in
     let own = noted-owner _ _ _ _ _ _ i.1 c.requires.0.ring.first_below _ c.frame_at-page.ensures in (
-      pages-next _ _ _ _ _ _ _ _ _ _ i.0 c.loop-i-test.true _ _ _ c.frame_at-page.ensures own c.owner_index-index.ensures (omega (arith, c.if-k-index.false)) _ (search rules) c.fold_page.ensures.0,
-      noted-pages-next _ _ _ _ c.requires.0.lines_by c.requires.0.owners_long _ _ i.1 _ _ _ c.frame_at-page.ensures own c.owner_index-index.ensures _ c.fold_page.ensures.1,
+      pages-next _ _ _ _ _ _ _ _ _ _ i.0 c.loop-i-test.true _ _ _ c.frame_at-page.ensures own c.owner_index-index.ensures (omega (arith, c.if-k-index.false)) _ (search rules) c.fold_page.ensures.copied,
+      noted-pages-next _ _ _ _ c.requires.0.lines_by c.requires.0.owners_long _ _ i.1 _ _ _ c.frame_at-page.ensures own c.owner_index-index.ensures _ c.fold_page.ensures.noted,
     )
 
 pub shape_of-archive : goal.shape_of-archive

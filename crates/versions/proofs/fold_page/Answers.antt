@@ -5,7 +5,7 @@ use Rattle.versions.proofs.Folding.{lines_start, lines-ask, lines_next, lines_en
 use Rattle.versions.proofs.fold_page.Goals as goal
 
 pub returns-then-ring-block : goal.returns-then-ring-block
-returns-then-ring-block c = (lines_none _ _ _ _ _ _ c.if-ring-block.true, noted-none _ _ _ _ _ c.if-ring-block.true)
+returns-then-ring-block c = record { copied = lines_none _ _ _ _ _ _ c.if-ring-block.true; noted = noted-none _ _ _ _ _ c.if-ring-block.true }
 
 pub loop-n-init : goal.loop-n-init
 loop-n-init c = (lines_start _ _ _ _ _ _, noted-start _ _ _ _ _)
@@ -21,8 +21,8 @@ loop-n-smaller c = omega arith
 pub loop-n-preserved : goal.loop-n-preserved
 loop-n-preserved c =
     let i = c.loop-n.invariant in (
-      lines_next _ _ _ _ _ _ _ _ i.0 (omega (arith, c.loop-n-test.true)) _ (search rules) c.fold_line.ensures.0,
-      noted-next _ _ _ _ _ _ _ i.1 _ (search rules) c.fold_line.ensures.1,
+      lines_next _ _ _ _ _ _ _ _ i.0 (omega (arith, c.loop-n-test.true)) _ (search rules) c.fold_line.ensures.copied,
+      noted-next _ _ _ _ _ _ _ i.1 _ (search rules) c.fold_line.ensures.noted,
     )
 
 pub shape_of-archive : goal.shape_of-archive
@@ -33,7 +33,8 @@ shape_of-owners c = c.loop-n.invariant.1.long
 
 pub returns : goal.returns
 returns c =
-    let i = c.loop-n.invariant in (
-      lines_end _ _ _ _ _ _ _ _ i.0 (omega (arith, c.loop-n-test.false)) c.if-ring-block.false,
-      noted-end _ _ _ _ _ _ _ i.1 i.0.few (omega (arith, c.loop-n-test.false)) c.if-ring-block.false,
-    )
+    let i = c.loop-n.invariant in
+    record {
+      copied = lines_end _ _ _ _ _ _ _ _ i.0 (omega (arith, c.loop-n-test.false)) c.if-ring-block.false;
+      noted = noted-end _ _ _ _ _ _ _ i.1 i.0.few (omega (arith, c.loop-n-test.false)) c.if-ring-block.false;
+    }

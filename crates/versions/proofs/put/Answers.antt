@@ -9,13 +9,9 @@ claim-requires c =
 
 pub returns : goal.returns
 returns c =
-    (
-      c.write_page_line.ensures,
-      (
-        c.set.ensures,
-        (
-          put-entry c.args.shape.lines _ _ _ (c.args.line / 8) _ c.args.page c.args.table.now _ c.frame_at-frame.ensures c.claim.ensures.0,
-          put-place _ _ _ (c.args.line / 8) _ c.args.page c.args.owners.now _ c.frame_at-frame.ensures c.claim.ensures.1,
-        ),
-      ),
-    )
+    record {
+      bytes = c.write_page_line.ensures;
+      bit = c.set.ensures;
+      table = put-entry c.args.shape.lines _ _ _ (c.args.line / 8) _ c.args.page c.args.table.now _ c.frame_at-frame.ensures c.claim.ensures.table;
+      owner = put-place _ _ _ (c.args.line / 8) _ c.args.page c.args.owners.now _ c.frame_at-frame.ensures c.claim.ensures.owner;
+    }

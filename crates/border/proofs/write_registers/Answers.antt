@@ -1,0 +1,8 @@
+-- `border::write_registers` meets its contract.
+use mathlib.Core.Path.{refl}
+use Rattle.border.specs.Lent.{registers_from}
+use Rattle.border.proofs.write_registers.Goals as goal
+
+pub returns : goal.returns
+unfolding registers_from
+returns c = refl

@@ -1,0 +1,31 @@
+-- `replies::call` meets its contract: each record's call has the promise that the store's function ensures.
+use Rattle.replies.specs.Lines.{answer_of}
+use Rattle.replies.proofs.Calls.{called-reset, called-read, called-write, called-mark, called-back, called-advance, called-counts}
+use Rattle.replies.proofs.call.Goals as goal
+
+pub returns-in-Reset : goal.returns-in-Reset
+returns-in-Reset c =
+    search (called-reset, c.in-Reset.is, c.number-first.ensures, c.number-second.ensures, c.number-third.ensures, c.reset.ensures.0, c.outcome_reply.ensures.0, c.outcome_reply.ensures.1)
+
+pub returns-in-Read : goal.returns-in-Read
+unfolding answer_of
+returns-in-Read c = search called-read
+
+pub returns-in-Write : goal.returns-in-Write
+returns-in-Write c =
+    search (called-write, c.in-Write.is, c.number-first.ensures, c.number-second.ensures, c.number-third.ensures, c.write.ensures.0, c.outcome_reply-in-Write.ensures.0, c.outcome_reply-in-Write.ensures.1)
+
+pub returns-in-Mark : goal.returns-in-Mark
+returns-in-Mark c = search (called-mark, c.in-Mark.is, c.mark.ensures.0, c.outcome_reply-in-Mark.ensures.0, c.outcome_reply-in-Mark.ensures.1)
+
+pub returns-in-Back : goal.returns-in-Back
+returns-in-Back c =
+    search (called-back, c.in-Back.is, c.number-first.ensures, c.rollback.ensures.0, c.outcome_reply-in-Back.ensures.0, c.outcome_reply-in-Back.ensures.1)
+
+pub returns-in-Advance : goal.returns-in-Advance
+returns-in-Advance c =
+    search (called-advance, c.in-Advance.is, c.number-first.ensures, c.advance.ensures.0, c.outcome_reply-in-Advance.ensures.0, c.outcome_reply-in-Advance.ensures.1)
+
+pub returns-in-Counts : goal.returns-in-Counts
+unfolding answer_of
+returns-in-Counts c = search called-counts

@@ -1,0 +1,6 @@
+-- `vcm::vcm_raw_line_refusal` meets its contract.
+use mathlib.Core.Path.{sym}
+use Rattle.vcm.proofs.vcm_raw_line_refusal.Goals as goal
+
+pub returns : goal.returns
+returns c = rw (sym c.read_registers.ensures) c.line_refusal.ensures

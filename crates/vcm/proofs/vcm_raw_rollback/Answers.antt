@@ -1,0 +1,7 @@
+-- `vcm::vcm_raw_rollback` meets its contract.
+use mathlib.Core.Path.{sym}
+use Rattle.vcm.proofs.vcm_raw_rollback.Goals as goal
+
+pub returns : goal.returns
+returns c =
+    rw (c.write_registers.ensures, sym c.read_registers.ensures) c.rollback-step.ensures

@@ -179,7 +179,9 @@ act-settings (suc n) m a = refl
 items-settings : (lengths : Pieces) (m : Model) (ws : List Write) → (after_items lengths m ws).plain.settings ≡ m.plain.settings
 unfolding after_items
 items-settings lengths m [] = refl
-items-settings lengths m (w ∷ ws) = items-settings lengths _ ws ∙ act-settings _ m (write_of w)
+items-settings lengths m (w ∷ ws) =
+    let n : ℕ = plain_refusal lengths m.plain (ON (write_of w)) in
+    items-settings lengths (act_step n m (write_of w)) ws ∙ act-settings n m (write_of w)
 
 step-roomy : (lengths : Pieces) (m : Model) (c : Call) (n : ℕ) → plain_refusal lengths m.plain c ≡ n → enough m.plain.settings lengths ≡ true
     → enough (model_step lengths n m c).plain.settings lengths ≡ true

@@ -11,7 +11,7 @@ use choices::counts::Tally;
 use choices::rows::Turn;
 use choices::{asked, choice, counts, items, rows};
 use copies::{Answer, Call, Plain, Reply, pieces};
-use libc::{STDIN_FILENO, STDOUT_FILENO};
+use std::io::{ErrorKind, Read as _};
 use store::State;
 use subject::Told;
 
@@ -46,15 +46,22 @@ fn start() -> Game {
 }
 
 // Prints a row but for its line feed.
-fn print_row(script: &[u8], at: usize, next: usize) {
+fn print_row(rt: &impl Print, script: &[u8], at: usize, next: usize) {
     let end = std::num::wrapping_sub_usize(next, 1);
     if at <= end && end <= script.len() {
-        io::write_all(STDOUT_FILENO, &script[at..end]);
+        tally::put(rt, &script[at..end]);
     }
 }
 
 // The next call, of the run or of the rows, by the numbers of the plain store.
-fn next(run: Run, script: &[u8], lines: usize, frames: usize, live: usize) -> Turn {
+fn next(
+    rt: &impl Print,
+    run: Run,
+    script: &[u8],
+    lines: usize,
+    frames: usize,
+    live: usize,
+) -> Turn {
     if 0 < run.left {
         let mut after = run;
         after.left = run.left - 1;
@@ -66,39 +73,46 @@ fn next(run: Run, script: &[u8], lines: usize, frames: usize, live: usize) -> Tu
     }
     let row = rows::row_at(script, run.place);
     if row.kind != rows::END {
-        print_row(script, run.place, row.next);
+        print_row(rt, script, run.place, row.next);
     }
     rows::turn_of(script, row, run)
 }
 
 // What is printed behind a call: the answer to a row, the differences behind a run.
-fn print_end(kind: u32, before: usize, left: usize, answer: Answer, tally: Tally) {
+fn print_end(rt: &impl Print, kind: u32, before: usize, left: usize, answer: Answer, tally: Tally) {
     if 0 < left || kind == rows::END {
         return;
     }
     if before == 1 {
-        tally::print_differences(tally);
+        tally::print_differences(rt, tally);
         return;
     }
     if kind < rows::TITLE {
-        tally::print_answer(b": ", answer);
+        tally::print_answer(rt, b": ", answer);
     }
-    io::write_all(STDOUT_FILENO, b"\n");
+    tally::put(rt, b"\n");
 }
 
 // A block is counted, and the answers to one of the rows are printed.
-fn block_ended(tally: Tally, run: Run, call: Call, refusal: usize, answers: [u32; 256]) -> Tally {
+fn block_ended(
+    rt: &impl Print,
+    tally: Tally,
+    run: Run,
+    call: Call,
+    refusal: usize,
+    answers: [u32; 256],
+) -> Tally {
     if call.kind != copies::BLOCK {
         return tally;
     }
     if run.left == 0 {
-        tally::print_answers(answers, items::answers_lent(call));
+        tally::print_answers(rt, answers, items::answers_lent(call));
     }
     counts::block(tally, refusal, call, answers)
 }
 
 // The call is counted and printed, and the next one comes.
-fn ended(game: Game, turn: Turn, told: Told, reply: Reply) -> Game {
+fn ended(rt: &impl Print, game: Game, turn: Turn, told: Told, reply: Reply) -> Game {
     let before = game.state;
     let run = game.run;
     let after = turn.run;
@@ -112,9 +126,9 @@ fn ended(game: Game, turn: Turn, told: Told, reply: Reply) -> Game {
     let turned = state.registers.cmf < before.registers.cmf;
     let swept = state.registers.tag == 0;
     let deed = counts::deed(call.kind, expected, turned, swept);
-    let counted = block_ended(game.tally, run, call, expected.refusal, answers);
-    let tally = tally::judged(counted, call, deed, answer, expected);
-    print_end(call.kind, run.left, after.left, answer, tally);
+    let counted = block_ended(rt, game.tally, run, call, expected.refusal, answers);
+    let tally = tally::judged(rt, counted, call, deed, answer, expected);
+    print_end(rt, call.kind, run.left, after.left, answer, tally);
     Game {
         state,
         plain,
@@ -126,6 +140,7 @@ fn ended(game: Game, turn: Turn, told: Told, reply: Reply) -> Game {
 
 // A call on both stores.
 fn step(
+    rt: &impl Print,
     game: Game,
     archive: &mut [u8],
     pool: &mut [u8],
@@ -137,7 +152,7 @@ fn step(
     script: &[u8],
 ) -> Game {
     let plain = game.plain;
-    let turn = next(game.run, script, plain.lines, plain.frames, plain.live);
+    let turn = next(rt, game.run, script, plain.lines, plain.frames, plain.live);
     let asked = turn.asked;
     let call = asked.call;
     let list = items::list(call, script, game.run, plain.lines);
@@ -149,11 +164,12 @@ fn step(
     let told = played.told;
     let answers = told.answers;
     let reply = copies::step(memory, plain, call, items, answers, played.lent);
-    ended(game, turn, told, reply)
+    ended(rt, game, turn, told, reply)
 }
 
 // All calls of all rows and runs, one after the other, on both stores.
 fn play(
+    rt: &impl Print,
     archive: &mut [u8],
     pool: &mut [u8],
     groups: &mut [u32],
@@ -166,7 +182,7 @@ fn play(
     let mut game = start();
     for _ in 0..10000000u32 {
         game = step(
-            game, archive, pool, groups, table, owners, history, memory, script,
+            rt, game, archive, pool, groups, table, owners, history, memory, script,
         );
         if game.kind == rows::END {
             return game;
@@ -176,28 +192,49 @@ fn play(
 }
 
 // The counts, with those of the plain store.
-fn print_all(game: Game) {
+fn print_all(rt: &impl Print, game: Game) {
     let plain = game.plain;
     let cache = plain.cache;
     let mut tally = game.tally;
     tally.n[30] = plain.highest;
     tally.n[31] = plain.rooms;
     tally.n[32] = cache.conflicts;
-    tally::print(tally);
+    tally::print(rt, tally);
+}
+
+// Reads until the buffer is full, the input ends or a read fails. A read that a signal interrupted is tried again.
+fn read_script(rt: &impl Input, script: &mut [u8]) {
+    let mut reader = rt.reader();
+    let mut done = 0;
+    for _ in 0..u64::MAX {
+        if script.len() <= done {
+            return;
+        }
+        match reader.read(&mut script[done..]) {
+            Ok(0) => return,
+            Ok(n) => done = done + n,
+            Err(error) => {
+                if error.kind() != ErrorKind::Interrupted {
+                    return;
+                }
+            }
+        }
+    }
 }
 
 // Memory for the largest settings, and for the copies. The rows come on standard input.
-fn main() {
-    let mut archive = io::large_buffer();
+fn main(rt: HostRuntime) {
+    let mut archive = [0u8; 65536];
     let mut pool = pieces::pool_room();
     let mut groups = pieces::groups_room();
     let mut table = pieces::table_room();
     let mut owners = pieces::owners_room();
     let mut history = pieces::history_room();
     let mut memory = copies::room();
-    let mut script = io::large_buffer();
-    io::read_full(STDIN_FILENO, &mut script);
+    let mut script = [0u8; 65536];
+    read_script(&rt, &mut script);
     let game = play(
+        &rt,
         &mut archive,
         &mut pool,
         &mut groups,
@@ -207,5 +244,5 @@ fn main() {
         &mut memory,
         &script,
     );
-    print_all(game);
+    print_all(&rt, game);
 }

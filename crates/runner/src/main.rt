@@ -3,13 +3,15 @@
 #![tactic(auto)]
 
 ghost use Rattle.std.specs.Prelude.{◌≡◌, ◌≤◌, length};
+ghost use Rattle.std.specs.Io.{ReadsAtMost};
 ghost use Rattle.store.specs.Shown.{lent_of, lent_lengths};
 ghost use Rattle.replies.specs.Answers.{longest};
 ghost use Rattle.session.specs.Transcript.{runner_lent};
 ghost use Rattle.runner.specs.Reading.{AnswersChunk, Reads, ReadsAll};
 
-use libc::{STDIN_FILENO, STDOUT_FILENO};
 use session::Runner;
+use std::io;
+use std::io::{ErrorKind, Read as _};
 
 // The runner after a read, whether to go on, and whether all went well.
 #[derive(Clone, Copy)]
@@ -20,18 +22,33 @@ struct Read {
 }
 
 // Writes the first bytes of the output buffer; a write that fails is told on standard error.
-fn write_out(out: &[u8], filled: usize) -> bool
+fn write_out(rt: &(impl Print + Eprint), out: &[u8], filled: usize) -> bool
     requires { filled ≤ length out.now }
 {
-    let ok = io::write_all(STDOUT_FILENO, &out[..filled]);
-    if !ok {
-        os::fail(b"session: write");
+    match rt.write_all(&out[..filled]) {
+        Ok(()) => true,
+        Err(error) => {
+            tell(rt, "write", error);
+            false
+        }
     }
-    ok
+}
+
+// Tells on standard error what failed; there is no other place to tell that this failed too.
+fn tell(rt: &impl Eprint, what: &str, error: io::Error) {
+    let _ = rt.eprintln(format_args!("session: {what}: {error}"));
+}
+
+// Reads once.
+fn read_chunk(rt: &impl Input, input: &mut [u8]) -> io::Result<usize>
+    ensures { ReadsAtMost result input.new }
+{
+    rt.reader().read(input)
 }
 
 // Answers the lines that end in a chunk.
 fn answer_chunk(
+    rt: &(impl Print + Eprint),
     runner: Runner,
     archive: &mut [u8],
     pool: &mut [u8],
@@ -62,7 +79,7 @@ fn answer_chunk(
         );
         current = told.runner;
         from = from + told.used;
-        if !write_out(out, told.filled) {
+        if !write_out(rt, out, told.filled) {
             return Read {
                 runner: current,
                 more: false,
@@ -80,6 +97,7 @@ fn answer_chunk(
 // Reads once and answers the lines that end in what came. After the end of input or a failed read there is no more; a read that a signal
 // interrupted is tried again.
 fn read_some(
+    rt: &(impl Input + Print + Eprint),
     runner: Runner,
     archive: &mut [u8],
     pool: &mut [u8],
@@ -92,32 +110,34 @@ fn read_some(
     requires { longest ≤ length out.old }
     ensures { Reads runner (lent_of archive.old pool.old groups.old table.old owners.old history.old) result.runner (lent_of archive.new pool.new groups.new table.new owners.new history.new) result.more result.ok }
 {
-    let mut input = io::large_buffer();
-    let got = libc::read(STDIN_FILENO, &mut input);
-    if got < 0 {
-        if os::errno() == libc::EINTR {
+    let mut input = [0u8; 65536];
+    let n = match read_chunk(rt, &mut input) {
+        Ok(n) => n,
+        Err(error) => {
+            if error.kind() == ErrorKind::Interrupted {
+                return Read {
+                    runner,
+                    more: true,
+                    ok: true,
+                };
+            }
+            tell(rt, "read", error);
             return Read {
                 runner,
-                more: true,
-                ok: true,
+                more: false,
+                ok: false,
             };
         }
-        os::fail(b"session: read");
-        return Read {
-            runner,
-            more: false,
-            ok: false,
-        };
-    }
-    if got == 0 {
+    };
+    if n == 0 {
         return Read {
             runner,
             more: false,
             ok: true,
         };
     }
-    let n = io::count(got, &input);
     answer_chunk(
+        rt,
         runner,
         archive,
         pool,
@@ -133,6 +153,7 @@ fn read_some(
 // AnswersChunk the input to its end or to a failure. A proved loop has to end, and nothing says that the input does: so the reads are counted down
 // from a number that no run uses up.
 fn read_all(
+    rt: &(impl Input + Print + Eprint),
     archive: &mut [u8],
     pool: &mut [u8],
     groups: &mut [u32],
@@ -148,7 +169,9 @@ fn read_all(
     let mut runner = session::start();
     let mut turns = u64::MAX;
     while turns > 0 {
-        let read = read_some(runner, archive, pool, groups, table, owners, history, out);
+        let read = read_some(
+            rt, runner, archive, pool, groups, table, owners, history, out,
+        );
         runner = read.runner;
         if !read.more {
             return Read {
@@ -167,15 +190,16 @@ fn read_all(
 }
 
 // Memory for L = 512, F = 256 and P = 256: 16 × L bytes, 128 × P bytes, F / 16 × L groups, F × L / 8 entries, P owners with L flags and 256 tags.
-fn main() {
+fn main(rt: HostRuntime) {
     let mut archive = [0u8; 8192];
     let mut pool = [0u8; 32768];
     let mut groups = [0u32; 8192];
     let mut table = [0u16; 16384];
     let mut owners = [0u32; 768];
     let mut history = [0u16; 256];
-    let mut out = io::large_buffer();
+    let mut out = [0u8; 65536];
     let read = read_all(
+        &rt,
         &mut archive,
         &mut pool,
         &mut groups,
@@ -198,5 +222,5 @@ fn main() {
         &mut history,
         &mut out,
     );
-    write_out(&out, filled);
+    write_out(&rt, &out, filled);
 }

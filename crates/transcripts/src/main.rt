@@ -5,7 +5,6 @@ mod sessions;
 
 ghost use Rattle.std.specs.Prelude.{◌+◌, ◌≤◌, ◌<◌, length};
 
-use libc::STDOUT_FILENO;
 use session::{Fed, Runner};
 
 // Puts a piece so many times behind what is there, as far as there is room.
@@ -63,8 +62,13 @@ fn expand(input: &mut [u8], script: &[u8]) -> usize
     filled
 }
 
+// Prints bytes. A write that fails is let be: what is missing is seen where the transcripts are compared.
+fn print(rt: &impl Print, bytes: &[u8]) {
+    let _ = rt.write_all(bytes);
+}
+
 // Prints the first part of a script, the session's name, and puts the others.
-fn put(input: &mut [u8], script: &[u8]) -> usize
+fn put(rt: &impl Print, input: &mut [u8], script: &[u8]) -> usize
     ensures { result ≤ length input.new }
 {
     let count = script.len();
@@ -72,7 +76,7 @@ fn put(input: &mut [u8], script: &[u8]) -> usize
         return 0;
     }
     let end = chunk_end(4, number(script, 2), count);
-    io::write_all(STDOUT_FILENO, &script[4..end]);
+    print(rt, &script[4..end]);
     expand(input, &script[end..])
 }
 
@@ -213,23 +217,23 @@ fn room_of(turn: u32) -> usize {
 }
 
 // Says which play gave another transcript.
-fn tell(turn: u32) {
-    io::write_all(STDOUT_FILENO, b"another transcript in play ");
-    io::write_all(STDOUT_FILENO, &[48 + (turn % 10) as u8]);
-    io::write_all(STDOUT_FILENO, b"\n");
+fn tell(rt: &impl Print, turn: u32) {
+    print(rt, b"another transcript in play ");
+    print(rt, &[48 + (turn % 10) as u8]);
+    print(rt, b"\n");
 }
 
 // Prints the transcript of a session's first play and keeps it, and compares that of a later play with it. Returns how many bytes are kept.
-fn report(turn: u32, transcript: &[u8], first: &mut [u8], kept: usize) -> usize
+fn report(rt: &impl Print, turn: u32, transcript: &[u8], first: &mut [u8], kept: usize) -> usize
     requires { kept ≤ length first.old }
     ensures { result ≤ length first.new }
 {
     if turn == 0 {
-        io::write_all(STDOUT_FILENO, transcript);
+        print(rt, transcript);
         return piece(first, 0, transcript, 1);
     }
-    if !check::same(&first[..kept], transcript) {
-        tell(turn);
+    if &first[..kept] != transcript {
+        tell(rt, turn);
     }
     kept
 }
@@ -237,6 +241,7 @@ fn report(turn: u32, transcript: &[u8], first: &mut [u8], kept: usize) -> usize
 // Plays a session in chunks of 4,096, 7 and 1 bytes with output buffers of 65,536 bytes, of the longest answer and of one byte more, each time on
 // memory as the play before left it, and prints its transcript, and which plays gave another one.
 fn show(
+    rt: &impl Print,
     archive: &mut [u8],
     pool: &mut [u8],
     groups: &mut [u32],
@@ -245,11 +250,11 @@ fn show(
     history: &mut [u16],
     input: &[u8],
 ) {
-    let mut first = io::large_buffer();
+    let mut first = [0u8; 65536];
     let mut kept = 0;
     let mut turn = 0;
     while turn < 9 {
-        let mut out = io::large_buffer();
+        let mut out = [0u8; 65536];
         let count = play(
             archive,
             pool,
@@ -262,13 +267,14 @@ fn show(
             room_of(turn),
             &mut out,
         );
-        kept = report(turn, &out[..count], &mut first, kept);
+        kept = report(rt, turn, &out[..count], &mut first, kept);
         turn = turn + 1;
     }
 }
 
 // Shows all sessions, one after the other.
 fn show_all(
+    rt: &impl Print,
     archive: &mut [u8],
     pool: &mut [u8],
     groups: &mut [u32],
@@ -279,8 +285,9 @@ fn show_all(
     let mut which = 0;
     while which < 11 {
         let mut input = [0u8; 16384];
-        let count = sessions::begin(which, &mut input);
+        let count = sessions::begin(rt, which, &mut input);
         show(
+            rt,
             archive,
             pool,
             groups,
@@ -294,7 +301,7 @@ fn show_all(
 }
 
 // Memory as the runner lends it.
-fn main() {
+fn main(rt: HostRuntime) {
     let mut archive = [0u8; 8192];
     let mut pool = [0u8; 32768];
     let mut groups = [0u32; 8192];
@@ -302,6 +309,7 @@ fn main() {
     let mut owners = [0u32; 768];
     let mut history = [0u16; 256];
     show_all(
+        &rt,
         &mut archive,
         &mut pool,
         &mut groups,

@@ -1,5 +1,4 @@
 use Rattle.lists.proofs.Lines.{read-start, read_next, read-end}
-use Prim.Native.Nat.{◌-◌}
 use borrow.Author.Rules.{rules}
 use Rattle.lists.proofs.read_line.Goals as goal
 

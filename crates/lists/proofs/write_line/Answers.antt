@@ -1,5 +1,4 @@
 use Rattle.lists.proofs.Lines.{copied-start, copied_next, copied-end}
-use Prim.Native.Nat.{◌-◌}
 use borrow.Author.Rules.{rules}
 use Rattle.lists.proofs.write_line.Goals as goal
 

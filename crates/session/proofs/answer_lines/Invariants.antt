@@ -1,5 +1,4 @@
 -- `session::answer_lines` meets its contract.
--- past a line's end
 use Prim.Native.Nat.{◌-◌}
 use lib.ListN.{length}
 use Rattle.store.specs.Shown.{lent_of}

@@ -1,4 +1,3 @@
-use Prim.Native.Nat.{◌-◌}
 use borrow.Author.Rules.{rules}
 use Rattle.text.proofs.Keeping.{keeping_start, keeping-next, keeping-end, keeping-full}
 use Rattle.text.proofs.keep.Goals as goal

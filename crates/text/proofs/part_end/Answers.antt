@@ -1,4 +1,3 @@
-use Prim.Native.Nat.{◌-◌}
 use Rattle.text.proofs.Fields.{scanning-start, scanning-found, scanning-next, scanning-end}
 use Rattle.text.proofs.part_end.Goals as goal
 

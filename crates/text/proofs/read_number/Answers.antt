@@ -1,5 +1,4 @@
 use native.Mathlib.Omega.{arith}
-use Prim.Native.Nat.{◌-◌}
 use mathlib.Core.Path.{sym, ◌∙◌}
 use borrow.Author.Tests.{not-false}
 use Rattle.text.proofs.Reading.{reading-start, reading-next, reading-room, number-empty, number-long, number-other, number-large, number_is}

@@ -1,4 +1,3 @@
-use Rattle.std.proofs.Common.{◌-◌}
 use Rattle.copies.proofs.items.tried.Goals as goal
 
 pub item_at-requires : goal.item_at-requires

@@ -1,4 +1,3 @@
-use Rattle.std.proofs.Common.{◌-◌}
 use Rattle.copies.proofs.memory.clear.Goals as goal
 
 pub put-requires : goal.put-requires

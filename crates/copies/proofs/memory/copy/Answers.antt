@@ -1,4 +1,3 @@
-use Rattle.std.proofs.Common.{◌-◌}
 use Rattle.copies.proofs.memory.copy.Goals as goal
 
 pub wrapping_add_usize-requires : goal.wrapping_add_usize-requires

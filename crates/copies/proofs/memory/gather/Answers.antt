@@ -1,4 +1,3 @@
-use Rattle.std.proofs.Common.{◌-◌}
 use Rattle.copies.proofs.memory.gather.Goals as goal
 
 pub times-line-requires : goal.times-line-requires

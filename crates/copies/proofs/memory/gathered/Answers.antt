@@ -1,4 +1,3 @@
-use Rattle.std.proofs.Common.{◌-◌}
 use Rattle.copies.proofs.memory.gathered.Goals as goal
 
 pub bits-set-requires : goal.bits-set-requires

@@ -1,4 +1,3 @@
-use Rattle.std.proofs.Common.{◌-◌}
 use Rattle.copies.proofs.memory.needed.Goals as goal
 
 pub times-blocks-requires : goal.times-blocks-requires

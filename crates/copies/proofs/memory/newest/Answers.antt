@@ -1,4 +1,3 @@
-use Rattle.std.proofs.Common.{◌-◌}
 use Rattle.copies.proofs.memory.newest.Goals as goal
 
 pub is_written-requires : goal.is_written-requires

@@ -1,4 +1,3 @@
-use Rattle.std.proofs.Common.{◌-◌}
 use Rattle.copies.proofs.pieces.bytes_copy.Goals as goal
 
 pub pool_room-to-requires : goal.pool_room-to-requires

@@ -1,4 +1,3 @@
-use Rattle.std.proofs.Common.{◌-◌}
 use Rattle.copies.proofs.pieces.halves_copy.Goals as goal
 
 pub table_room-to-requires : goal.table_room-to-requires

@@ -1,4 +1,3 @@
-use Rattle.std.proofs.Common.{◌-◌}
 use Rattle.copies.proofs.pieces.words_copy.Goals as goal
 
 pub groups_room-to-requires : goal.groups_room-to-requires

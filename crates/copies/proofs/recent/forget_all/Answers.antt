@@ -1,4 +1,3 @@
-use Rattle.std.proofs.Common.{◌-◌}
 use Rattle.copies.proofs.recent.forget_all.Goals as goal
 
 pub forget-after-requires : goal.forget-after-requires

@@ -3,10 +3,9 @@ pub mod Sizing
 pub mod Line
 pub mod Registers
 pub mod Call
-pub mod Count
+pub mod Seen
 pub mod Decimal
 pub mod Map
-pub mod Seen
 pub mod Refusal
 pub mod Figure3
 pub mod Plain

@@ -1,6 +1,6 @@
 -- Request 2.4: "Lay the written bits on a page whose rows are exactly 70 bytes." Quotations are of it.
 use Rattle.std.specs.Prelude.{ℕ, zero, suc, Bool, cond, ◌&&◌, List, [], ◌∷◌, ◌++◌, ltb}
-use Rattle.rules.specs.Count.{any}
+use Rattle.rules.specs.Seen.{any}
 use Rattle.rules.specs.Decimal.{padded}
 
 -- The values of a function at the numbers below n.

@@ -17,7 +17,7 @@ use Rattle.frames.proofs.Circle.{frame_below, index-frame}
 use Rattle.numbers.proofs.Digits.{digit-below, digit-bit, bit-one, set-under, set_own, set-over, set-small}
 use Rattle.written.specs.Bits.{Written, written_of, Asks, place_of, tag_of, tagged, bound_of, standing, effective, window_of}
 use Rattle.written.specs.Steps.{AsksWindow, regrouped, with_written}
-use Rattle.written.proofs.Areas.{asks-near, area_below}
+use Rattle.written.proofs.Areas.{asks-near}
 use Rattle.written.proofs.Windows.{window-small, window-bit}
 
 module _ (w : Written) (l i : ℕ) (a : Asks w l i) where

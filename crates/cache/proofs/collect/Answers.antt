@@ -1,9 +1,7 @@
 use mathlib.Core.Path.{refl}
-use Prim.Native.Nat.{◌-◌}
 use Rattle.cache.proofs.Returns.{collected-done}
 use Rattle.lists.proofs.Lists.{rewrite-next}
 use Rattle.lists.specs.Lists.{rewrite}
-use Rattle.cache.specs.Steps.{frame_after}
 use borrow.Author.Rules.{rules}
 use Rattle.cache.proofs.collect.Goals as goal
 

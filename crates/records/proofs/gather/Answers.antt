@@ -1,4 +1,3 @@
-use Prim.Native.Nat.{◌-◌}
 use borrow.Author.Rules.{rules}
 use Rattle.records.proofs.Gathering.{gathering-start, gathering-next, gathering-none, gathering-over, gathering-end, end_few}
 use Rattle.records.proofs.gather.Goals as goal

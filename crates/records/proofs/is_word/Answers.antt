@@ -1,4 +1,3 @@
-use Prim.Native.Nat.{◌-◌}
 use Rattle.records.proofs.Words.{comparing-start, other_length, comparing-differ, comparing-next, comparing-end}
 use Rattle.records.proofs.is_word.Goals as goal
 

@@ -1,4 +1,3 @@
-use Prim.Native.Nat.{◌-◌}
 use native.Mathlib.Omega.{arith}
 use borrow.Author.Rules.{rules}
 use Rattle.versions.proofs.Folding.{lines_start, lines-ask, lines_next, lines_end, lines_none, noted-start, noted-next, noted-end, noted-none}

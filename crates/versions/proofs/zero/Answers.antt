@@ -1,5 +1,4 @@
 use mathlib.Core.Path.{refl}
-use Prim.Native.Nat.{◌-◌}
 use native.Mathlib.Omega.{arith}
 use Rattle.lists.proofs.Lists.{rewrite-start, rewrite-more, rewrite-end}
 use Rattle.versions.specs.Steps.{zeroed}

@@ -1,5 +1,4 @@
 use native.Mathlib.Omega.{arith}
-use Prim.Native.Nat.{◌-◌}
 use mathlib.Core.Path.{refl, ◌∙◌}
 use Rattle.written.proofs.Blocks.{up-some, none_more, lines_more, block_none, block-found}
 use Rattle.written.proofs.block_has.Goals as goal

@@ -1,4 +1,3 @@
-use Prim.Native.Nat.{◌-◌}
 use native.Mathlib.Omega.{arith}
 use Rattle.written.proofs.Blanks.{set-near}
 use Rattle.lists.proofs.Lists.{from_start, from_next, from_end}

@@ -1,6 +1,5 @@
-use Prim.Native.Nat.{◌-◌}
 use native.Mathlib.Omega.{arith}
-use Rattle.written.specs.Steps.{lower_bound, lowered}
+use Rattle.written.specs.Steps.{lowered}
 use Rattle.lists.proofs.Lists.{rewrite-start, rewrite-more, rewrite-end}
 use Rattle.written.proofs.lower.Goals as goal
 

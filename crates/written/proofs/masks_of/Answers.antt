@@ -1,4 +1,3 @@
-use Prim.Native.Nat.{◌-◌}
 use borrow.Author.Rules.{rules}
 use Rattle.written.proofs.Sweeping.{masks-start, masks-next, masks-end}
 use Rattle.written.proofs.masks_of.Goals as goal

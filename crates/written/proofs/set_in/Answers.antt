@@ -1,7 +1,5 @@
 use mathlib.Core.Path.{refl}
-use Prim.Native.Nat.{◌-◌}
 use native.Mathlib.Omega.{arith}
-use Rattle.numbers.specs.Digits.{digit}
 use Rattle.written.proofs.Blanks.{added-start, set-near, digits_more, set-end}
 use Rattle.written.proofs.set_in.Goals as goal
 

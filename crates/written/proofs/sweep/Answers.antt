@@ -1,5 +1,4 @@
 use mathlib.Core.Path.{refl}
-use Prim.Native.Nat.{◌-◌}
 use native.Mathlib.Omega.{arith}
 use Rattle.written.specs.Steps.{masked_of, swept}
 use Rattle.written.proofs.Areas.{lent-kept}
@@ -10,11 +9,10 @@ pub loop-area-init : goal.loop-area-init
 loop-area-init c = (omega arith, areas-start _ _ _)
 
 pub sweep_area-requires : goal.sweep_area-requires
-sweep_area-requires c =
-    (
-      lent-kept _ _ _ _ c.requires c.requires.omf_below c.loop-area.invariant.1.long refl,
-      c.loop-area-test.true,
-    )
+sweep_area-requires c = (
+  lent-kept _ _ _ _ c.requires c.requires.omf_below c.loop-area.invariant.1.long refl,
+  c.loop-area-test.true,
+)
 
 pub overflow_add-area : goal.overflow_add-area
 overflow_add-area c = omega arith
@@ -23,11 +21,10 @@ pub loop-area-smaller : goal.loop-area-smaller
 loop-area-smaller c = omega arith
 
 pub loop-area-preserved : goal.loop-area-preserved
-loop-area-preserved c =
-    (
-      omega arith,
-      area-more _ _ (λ a g. masked_of c.args.shape.frames c.args.shape.omf a c.args.history.now g) _ _ _ c.loop-area.invariant.1 c.sweep_area.ensures,
-    )
+loop-area-preserved c = (
+  omega arith,
+  area-more _ _ (λ a g. masked_of c.args.shape.frames c.args.shape.omf a c.args.history.now g) _ _ _ c.loop-area.invariant.1 c.sweep_area.ensures,
+)
 
 pub shape_of-groups : goal.shape_of-groups
 shape_of-groups c = c.loop-area.invariant.1.long

@@ -1,4 +1,3 @@
-use Prim.Native.Nat.{◌-◌}
 use native.Mathlib.Omega.{arith}
 use Rattle.lists.proofs.Lists.{from_start, from_next, from_end}
 use Rattle.written.proofs.Sweeping.{masked-told, area-near}

@@ -1,5 +1,4 @@
 use mathlib.Core.Path.{refl}
-use Prim.Native.Nat.{◌-◌}
 use native.Mathlib.Omega.{arith}
 use Rattle.lists.proofs.Lists.{from_start, from_next, from_end}
 use Rattle.pages.specs.Flags.{unflagged}

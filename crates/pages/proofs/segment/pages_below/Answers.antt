@@ -1,4 +1,3 @@
-use Prim.Native.Nat.{◌-◌}
 use native.Mathlib.Omega.{arith}
 use Rattle.pages.proofs.Halving.{edge-start, page-lent, halve-up, halve-down, edge-leading}
 use Rattle.pages.proofs.segment.pages_below.Goals as goal

@@ -14,7 +14,6 @@ use Rattle.rules.specs.Registers.{Registers, live_frames, state_fits}
 use Rattle.rules.specs.Refusal.{unless, is_width, asked_refusal, line_refusal, marked_refusal, place_refusal, write_refusal, list_refusal, facts_by, state_refusal}
 use Rattle.rules.proofs.Chain.{Placed, fails, passes, passed, place-passed, write-passed, marked-passed}
 use Rattle.rules.proofs.Width.{widths, in-line, line_below}
-use Rattle.rules.proofs.Registers.{live_some}
 use Rattle.numbers.specs.declared.Found.{Found}
 use Rattle.written.specs.Bits.{written_of, newest_from}
 use Rattle.lists.specs.Lines.{AsksBytes}

@@ -25,7 +25,6 @@ use Rattle.rules.specs.Refusal.{marked_refusal, refusal, act_refusal, facts_by}
 use Rattle.rules.specs.Figure2.{figure_step, registers_step, omrv, has_omrv, version_in, found_in, is_written}
 use Rattle.rules.specs.Figure3.{WellCache, cache_step}
 use Rattle.rules.specs.Promise.{Promise, Followed, settings_for, WellFigure}
-use Rattle.rules.specs.Registers as rules
 use Rattle.rules.proofs.Registers.{facts-fit, live-advance}
 use Rattle.rules.proofs.WellSteps.{advance-well}
 use Rattle.frames.specs.Circle.{frame_at}

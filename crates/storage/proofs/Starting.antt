@@ -1,8 +1,8 @@
 -- RESET keeps its promise, on any state and any lent contents. Assumes nothing.
-use mathlib.Core.Path.{◌≡◌, refl, sym, ◌∙◌, ap, ap₂, subst, fun_ext}
+use mathlib.Core.Path.{◌≡◌, refl, sym, ◌∙◌, ap, subst}
 use mathlib.Core.Logic.{◌≢◌}
 use mathlib.Core.Bool.{Bool, true, false, cond, ◌&&◌}
-use mathlib.Core.Option.{Option, none, some}
+use mathlib.Core.Option.{none, some}
 use mathlib.Core.List.{List}
 use Prim.Native.Nat.{ℕ, ◌+◌, ◌*◌, ◌/◌, ◌-◌, ◌≤◌, ◌<◌, min}
 use native.Mathlib.Decide.{dec_lt}
@@ -13,7 +13,7 @@ use lib.ListN.{length, set, drop, take, length-set, length-take, length-drop, re
 use lib.Seq.{ext_get_or, get_or-take, get_or-drop, drop-set-lt}
 use Rattle.rules.specs.Settings.{Settings, Pieces, within, elements, enough, covers}
 use Rattle.rules.specs.Sizing.{settings_of}
-use Rattle.rules.specs.Line.{Line, zeros}
+use Rattle.rules.specs.Line.{zeros}
 use Rattle.rules.specs.Call.{refused}
 use Rattle.rules.specs.Call.Answer.{outcome}
 use Rattle.rules.specs.Call.Call.{RESET}

@@ -1,4 +1,3 @@
-use Prim.Native.Nat.{◌-◌}
 use native.Mathlib.Omega.{arith}
 use Rattle.wellformed.proofs.Deciding.{says-yes, passes, part-fails, all_start, all-next, all_end}
 use Rattle.wellformed.proofs.Rings.{entry_few, entries-paged, paged-entry}

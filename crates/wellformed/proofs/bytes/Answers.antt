@@ -1,4 +1,3 @@
-use Prim.Native.Nat.{◌-◌}
 use native.Mathlib.Omega.{arith}
 use Rattle.wellformed.proofs.Deciding.{all_start, all-next, all_end}
 use Rattle.wellformed.proofs.bytes.Goals as goal

@@ -1,4 +1,3 @@
-use Prim.Native.Nat.{◌-◌}
 use native.Mathlib.Omega.{arith}
 use Rattle.pages.proofs.Halving.{page-lent}
 use Rattle.wellformed.proofs.Rings.{walked_start, walked-unbacked, walked-falls, walked_next, walked_end}

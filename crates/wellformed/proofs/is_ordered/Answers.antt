@@ -1,4 +1,3 @@
-use Prim.Native.Nat.{◌-◌}
 use native.Mathlib.Omega.{arith}
 use Rattle.wellformed.proofs.Deciding.{says-yes, says-no, all_start, all-next, all_end}
 use Rattle.wellformed.proofs.is_ordered.Goals as goal

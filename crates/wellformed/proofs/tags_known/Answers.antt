@@ -1,4 +1,3 @@
-use Prim.Native.Nat.{◌-◌}
 use native.Mathlib.Omega.{arith}
 use Rattle.wellformed.proofs.Deciding.{all_start, all-next}
 use Rattle.wellformed.proofs.Groups.{none-known, tag-over, tags-end}

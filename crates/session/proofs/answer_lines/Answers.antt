@@ -1,8 +1,6 @@
-use Prim.Native.Nat.{◌+◌, ◌-◌, ◌^◌, ◌<◌}
 use native.Mathlib.Omega.{arith}
 use borrow.Author.Rules.{rules}
 use mathlib.Core.Path.{ap}
-use lib.ListN.{length}
 use Rattle.rules.specs.Settings.{Pieces}
 use Rattle.session.proofs.Lines.{lines_start, lines-room, lines_few, lines-stop}
 use Rattle.session.proofs.Stepping.{turn-room, turn-less, turn-empty, turn-down, turn-call}

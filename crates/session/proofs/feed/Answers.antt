@@ -1,7 +1,6 @@
 -- `session::feed` meets its contract.
-use mathlib.Core.Path.{◌≡◌, sym, ap}
+use mathlib.Core.Path.{◌≡◌, sym}
 use lib.ListN.{length}
-use Rattle.rules.specs.Settings.{Pieces}
 use native.Mathlib.Omega.{arith}
 use lib.Seq.{length-take-le}
 use Rattle.session.proofs.Feeding.{end_few, taken-full, taken-rest, taken-part}

@@ -1,7 +1,5 @@
 use mathlib.Core.Path.{ap}
-use Prim.Native.Nat.{◌-◌}
 use native.Mathlib.Omega.{arith}
-use lib.ListN.{length}
 use Rattle.rules.specs.Settings.{Pieces}
 use Rattle.write_blocks.proofs.Doing.{doing-start, doing-next, write-block-refused, write-block-done}
 use Rattle.write_blocks.proofs.write_block.Goals as goal

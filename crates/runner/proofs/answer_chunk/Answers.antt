@@ -1,10 +1,8 @@
 use borrow.Author.Rules.{rules}
 use native.Mathlib.Omega.{arith}
-use mathlib.Core.Path.{◌∙◌, ap}
-use Prim.Native.Nat.{◌-◌}
-use lib.ListN.{length}
+use mathlib.Core.Path.{ap}
 use Rattle.rules.specs.Settings.{Pieces}
-use Rattle.session.proofs.Taking.{taken-room, taken-few}
+use Rattle.session.proofs.Taking.{taken-few}
 use Rattle.runner.proofs.Going.{going_start, going-fits, going_less, going_next, answers-cut, answers-all}
 use Rattle.runner.proofs.answer_chunk.Goals as goal
 

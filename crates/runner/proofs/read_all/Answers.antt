@@ -1,5 +1,5 @@
 use native.Mathlib.Omega.{arith}
-use mathlib.Core.Path.{◌∙◌, ap}
+use mathlib.Core.Path.{ap}
 use Rattle.rules.specs.Settings.{Pieces}
 use Rattle.runner.proofs.Reading.{underway-start, underway-next, reads_all, reads-too-many}
 use Rattle.runner.proofs.read_all.Goals as goal

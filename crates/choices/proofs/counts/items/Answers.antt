@@ -1,4 +1,3 @@
-use Rattle.std.proofs.Common.{◌-◌}
 use Rattle.choices.proofs.counts.items.Goals as goal
 
 pub count-requires : goal.count-requires

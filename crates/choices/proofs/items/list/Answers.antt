@@ -1,4 +1,4 @@
-use Rattle.std.proofs.Common.{◌-◌, rules}
+use Rattle.std.proofs.Common.{rules}
 use Rattle.choices.proofs.items.list.Goals as goal
 
 pub item_from-item-requires : goal.item_from-item-requires

@@ -1,4 +1,3 @@
-use Rattle.std.proofs.Common.{◌-◌}
 use Rattle.choices.proofs.rows.is_word.Goals as goal
 
 pub wrapping_add_usize-requires : goal.wrapping_add_usize-requires

@@ -1,4 +1,3 @@
-use Rattle.std.proofs.Common.{◌-◌}
 use Rattle.choices.proofs.rows.row_at.Goals as goal
 
 pub kind_at-requires : goal.kind_at-requires

@@ -1,4 +1,3 @@
-use Rattle.std.proofs.Common.{◌-◌}
 use Rattle.choices.proofs.rows.word_at.Goals as goal
 
 pub is_word-requires : goal.is_word-requires

@@ -442,13 +442,11 @@ def script(name, pieces):
 
 def rattle():
     """src/sessions.rt, before `rt fmt`."""
-    yield "// The test sessions, as scripts for `expand`. Written by sessions.py."
-    yield "ghost use Rattle.std.specs.Prelude.{◌≤◌, length};\n\nuse crate::put;\n"
-    yield "// Prints a session's name and puts its bytes."
-    yield "pub fn begin(rt: &impl Print, which: u32, input: &mut [u8]) -> usize\n    ensures { result ≤ length input.new }\n{\n    match which {"
-    for i, (name, pieces) in enumerate(SESSIONS):
-        yield f'        {i if i + 1 < len(SESSIONS) else "_"} => put(rt, input, b"{script(name, pieces)}"),'
-    yield "    }\n}"
+    yield "// The test sessions, as scripts for `put`. Written by sessions.py."
+    yield f"pub const SESSIONS: [&[u8]; {len(SESSIONS)}] = ["
+    for name, pieces in SESSIONS:
+        yield f'    b"{script(name, pieces)}",'
+    yield "];"
 
 
 if __name__ == "__main__":

@@ -2,27 +2,27 @@
 // nothing of the cache is copied. `store` has the same calls on a whole state by value, `vcm` exports them.
 #![tactic(auto)]
 
-ghost use Rattle.std.specs.Prelude.{◌≡◌};
+ghost use Rattle.std.specs.Prelude.{◌≡◌, None};
 ghost use Rattle.rules.specs.Refusal.{line_refusal};
+ghost use Rattle.rules.specs.Refusals.{refusal_in};
 ghost use Rattle.rules.specs.Call.Answer.{outcome, lending};
 ghost use Rattle.rules.specs.Call.Look.{LINE, LINE_REFUSAL};
 ghost use Rattle.written.specs.Bits.{written_at};
-ghost use Rattle.versions.specs.Newest.{origin_of, newest_of, AsksNewest};
-ghost use Rattle.cache.specs.declared.Entry.TheVariants.{Miss};
+ghost use Rattle.versions.specs.Newest.{newest_of, AsksNewest};
 ghost use Rattle.cache.specs.Entries.{cache_of, hit_in};
 ghost use Rattle.cache.specs.Steps.{placed_in};
 ghost use Rattle.storage.specs.Storage.{memory_of, lengths_in, registers_of, settings_at, shape_at, state_of, storage_of};
 ghost use Rattle.storage.specs.Admit.{admitted};
 ghost use Rattle.storage.specs.Clauses.{Reads, Looks};
+ghost use Rattle.access.specs.Reading.{value_in, origin_in};
 
-use cache::Entry;
+use rules::Refusal;
 use storage::Registers;
-use versions::{Origin, Spot, Version};
+use versions::{Origin, Version};
 
-// The value of a read and its origin, with the refusal or 0.
+// The value of a read and its origin.
 #[derive(Clone, Copy)]
 pub struct Reading {
-    pub refusal: u32,
     pub value: u32,
     pub origin: Origin,
 }
@@ -43,7 +43,7 @@ fn load(
     live: u32,
     line: u32,
 ) -> Version
-    requires { (AsksNewest (written_at (shape_at registers) groups.now history.now) registers.pages live line archive.now pool.now table.now) × (hit_in held.old valid.old line ≡ Miss) }
+    requires { (AsksNewest (written_at (shape_at registers) groups.now history.now) registers.pages live line archive.now pool.now table.now) × (hit_in held.old valid.old line ≡ None) }
     ensures found { result ≡ newest_of (written_at (shape_at registers) groups.now history.now) registers.pages live archive.now pool.now table.now line }
     ensures held { (cache_of held.new origins.new valid.new bytes.new last.new) ≡ placed_in (cache_of held.old origins.old valid.old bytes.old last.old) line result.frame result.content }
 {
@@ -66,7 +66,7 @@ fn load(
         bytes,
         last,
         line,
-        Entry::Miss,
+        None,
         version.frame,
         content,
     );
@@ -90,41 +90,32 @@ pub fn read(
     history: &[u16],
     width: u32,
     address: u32,
-) -> Reading
+) -> Result<Reading, Refusal>
     ensures { Reads
         (storage_of (state_of registers (cache_of held.old origins.old valid.old bytes.old last.old)) archive.now pool.now groups.now table.now owners.now history.now)
-        width address result.refusal result.value (origin_of result.origin)
+        width address (refusal_in result) (value_in result) (origin_in result)
         (storage_of (state_of registers (cache_of held.new origins.new valid.new bytes.new last.new)) archive.now pool.now groups.now table.now owners.now history.now) }
 {
     let lengths = storage::measure(archive, pool, groups, table, owners, history);
-    let refusal = storage::admit_place(registers, lengths, width, address);
-    if refusal != 0 {
-        return Reading {
-            refusal,
-            value: 0,
-            origin: Origin::Archive,
-        };
-    }
+    storage::admit_place(registers, lengths, width, address)?;
     let line = address / 16;
     match cache::find(held, valid, line) {
-        Entry::Hit(entry) => {
+        Some(entry) => {
             cache::recall(last, entry);
             let frame = cache::frame_of(origins, entry);
             let value = cache::value_at(bytes, entry, width, address % 16);
             if versions::is_empty(owners, registers.pages, line, frame) {
-                return Reading {
-                    refusal: 0,
+                return Ok(Reading {
                     value,
                     origin: Origin::Empty,
-                };
+                });
             }
-            Reading {
-                refusal: 0,
+            Ok(Reading {
                 value,
                 origin: Origin::Cache,
-            }
+            })
         }
-        Entry::Miss => {
+        None => {
             let live = frames::live(registers.frames, registers.omf, registers.cmf);
             let version = load(
                 registers, held, origins, valid, bytes, last, archive, pool, groups, table,
@@ -134,17 +125,12 @@ pub fn read(
             let origin = version.origin;
             let value = pages::lines::value_of(content, width, address % 16);
             if versions::is_empty(owners, registers.pages, line, version.frame) {
-                return Reading {
-                    refusal: 0,
+                return Ok(Reading {
                     value,
                     origin: Origin::Empty,
-                };
+                });
             }
-            Reading {
-                refusal: 0,
-                value,
-                origin,
-            }
+            Ok(Reading { value, origin })
         }
     }
 }
@@ -168,8 +154,8 @@ pub fn line_admitted<'a>(
     let shape = storage::shape(registers);
     let found = written::search(groups, history, shape, line, live - 1);
     match versions::locate(table, shape, registers.pages, line, found) {
-        Spot::Page(page) => pages::lines::page_line(pool, page, line % 8),
-        Spot::Archive => pages::lines::archive_line(archive, line),
+        Some(page) => pages::lines::page_line(pool, page, line % 8),
+        None => pages::lines::archive_line(archive, line),
     }
 }
 
@@ -187,15 +173,15 @@ pub fn line<'a>(
     ensures { Looks (LINE line) registers (memory_of archive.now pool.now groups.now table.now owners.now history.now) (lending result.now) }
 {
     let lengths = storage::measure(archive, pool, groups, table, owners, history);
-    if storage::admit_line(registers, lengths, line) != 0 {
-        return &archive[0..0];
+    match storage::admit_line(registers, lengths, line) {
+        Ok(()) => line_admitted(
+            registers, archive, pool, groups, table, owners, history, line,
+        ),
+        Err(_) => &archive[0..0],
     }
-    line_admitted(
-        registers, archive, pool, groups, table, owners, history, line,
-    )
 }
 
-// LINE's companion: the refusal of `line` on the same arguments, or 0.
+// LINE's companion: the refusal of `line` on the same arguments, if it gets one.
 pub fn line_refusal(
     registers: Registers,
     archive: &[u8],
@@ -205,8 +191,8 @@ pub fn line_refusal(
     owners: &[u32],
     history: &[u16],
     line: u32,
-) -> u32
-    ensures { Looks (LINE_REFUSAL line) registers (memory_of archive.now pool.now groups.now table.now owners.now history.now) (outcome result) }
+) -> Result<(), Refusal>
+    ensures { Looks (LINE_REFUSAL line) registers (memory_of archive.now pool.now groups.now table.now owners.now history.now) (outcome (refusal_in result)) }
 {
     let lengths = storage::measure(archive, pool, groups, table, owners, history);
     storage::admit_line(registers, lengths, line)

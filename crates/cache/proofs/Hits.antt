@@ -1,4 +1,6 @@
 -- `found` and the way taken, seen as Figure 3's cache. Assumes nothing.
+use Rattle.std.specs.Prelude as std
+use Rattle.std.specs.Prelude.{Some, None}
 use mathlib.Core.List.{List, []}
 use mathlib.Core.Path.{◌≡◌, refl, sym, ◌∙◌, ap, ap₂, subst}
 use mathlib.Core.Bool.{Bool, true, false, cond, not, ◌&&◌, ◌||◌, false≢true}
@@ -14,11 +16,9 @@ use Rattle.rules.specs.Figure3.{WellCache, set_of, is_in, is_free, holds, other_
 use Rattle.rules.specs.Figure3.Way.{way0, way1}
 use Rattle.rules.proofs.Tests.{both_true}
 use Rattle.cache.specs.declared.Cache.{Cache}
-use Rattle.cache.specs.declared.Entry.{Entry}
-use Rattle.cache.specs.declared.Entry.TheVariants.{Hit, Miss}
 use Rattle.cache.specs.Entries.{Sized, held_line, is_valid, home, is_at, found, is_hit, way_taken, entry_taken, AsksFound, FoundAt, hit_in, of_frame, is_at_in, is_valid_in, free_way, way_in}
 use Rattle.cache.specs.Shown.{line_in, way_of, shown}
-use Rattle.cache.proofs.Returns.{hit-some, at-line, found_first, found-second, found_none, taken-first, taken-second}
+use Rattle.cache.proofs.Returns.{at-line, found_first, found-second, found_none, taken-first, taken-second}
 
 -- only the 32 entries are valid
 pub valid-below : (c : Cache) (e : ℕ) → Sized c → is_valid c e ≡ true → e < 32
@@ -82,7 +82,7 @@ module _ (c : Cache) (l : ℕ) where
       go (is_at c (home l) l) (is_at c (home l + 1) l)
       ∙ ap₂ (λ (y z : Bool). y || z) (sym (in-at c (home l) l)) (sym (in-at c (home l + 1) l))
     where
-      go : (a b : Bool) → is_hit (cond a (Hit (home l)) (cond b (Hit (home l + 1)) Miss)) ≡ (a || b)
+      go : (a b : Bool) → is_hit (cond a (Some (home l)) (cond b (Some (home l + 1)) None)) ≡ (a || b)
       go true b = refl
       go false true = refl
       go false false = refl
@@ -105,7 +105,7 @@ module _ (c : Cache) (l : ℕ) where
       go false false false false false = refl
 
   -- the entry that `find` gives
-  pub found_at : (e : ℕ) → found c l ≡ Hit e → FoundAt c l e
+  pub found_at : (e : ℕ) → found c l ≡ Some e → FoundAt c l e
   found_at e h = go (is_at c (home l) l) (is_at c (home l + 1) l) refl refl
     where
       is : is_at c e l ≡ true → e ≡ entry_taken c l → FoundAt c l e
@@ -164,20 +164,20 @@ module _ (c : Cache) (l : ℕ) where
               omega (arith, here, taken-second c.held c.valid c.last l (is_at c (home l) l) refl p (is_at c (home l + 1) l) refl own)
 
 -- A hit may be read, in the form in which a caller of `find` has it,
-pub found_below : (lines valid : List ℕ) (l : ℕ) (r : Entry) (e : ℕ) → r ≡ hit_in lines valid l → r ≡ Hit e → e < 32
+pub found_below : (lines valid : List ℕ) (l : ℕ) (r : std.Option ℕ) (e : ℕ) → r ≡ hit_in lines valid l → r ≡ Some e → e < 32
 found_below lines valid l r e d h =
     (found_at (record { held = lines; origins = []; valid = valid; bytes = []; last = [] }) l e (sym d ∙ h)).below
 
 -- and one that hands it on.
-pub found-few : (lines valid : List ℕ) (l : ℕ) (r : Entry) → r ≡ hit_in lines valid l → AsksFound r
+pub found-few : (lines valid : List ℕ) (l : ℕ) (r : std.Option ℕ) → r ≡ hit_in lines valid l → AsksFound r
 found-few lines valid l r d e h = found_below lines valid l r e d h
 
 -- An entry with a frame is the one that was found, and has the frame.
-pub of-hit : (origins : List ℕ) (f e : ℕ) (r : Entry) → of_frame origins f r ≡ Hit e → (r ≡ Hit e) × (get_or origins e 0 ≡ f)
+pub of-hit : (origins : List ℕ) (f e : ℕ) (r : std.Option ℕ) → of_frame origins f r ≡ Some e → (r ≡ Some e) × (get_or origins e 0 ≡ f)
 unfolding of_frame
-of-hit origins f e (Hit n) h = own (eqb (get_or origins n 0) f) refl h
+of-hit origins f e (Some n) h = own (eqb (get_or origins n 0) f) refl h
   where
-    own : (t : Bool) → eqb (get_or origins n 0) f ≡ t → cond t (Hit n) Miss ≡ Hit e → (Hit n ≡ Hit e) × (get_or origins e 0 ≡ f)
+    own : (t : Bool) → eqb (get_or origins n 0) f ≡ t → cond t (Some n) None ≡ Some e → (Some n ≡ Some e) × (get_or origins e 0 ≡ f)
     own true p k = let d : n ≡ e = cc k in (k, ap (λ (m : ℕ). get_or origins m 0) (sym d) ∙ eqb-true (get_or origins n 0) f p)
-    own false p k = absurd (hit-some (sym k))
-of-hit origins f e Miss h = absurd (hit-some (sym h))
+    own false p k = cc
+of-hit origins f e None h = cc

@@ -1,5 +1,6 @@
 -- A use of a line: the cache steps as Figure 3's, the entry taken has just what it was given, and no other entry changes.
 -- Assumes nothing.
+use Rattle.std.specs.Prelude.{Some}
 use mathlib.Core.Path.{◌≡◌, refl, sym, ◌∙◌, ap, ap₂, subst, fun_ext}
 use mathlib.Core.Bool.{Bool, true, false, cond, false≢true}
 use mathlib.Core.Logic.{◌≢◌}
@@ -16,7 +17,6 @@ use Rattle.rules.specs.Settings.{Settings}
 use Rattle.rules.specs.Figure3 as figure
 use Rattle.rules.specs.Figure3.{Way, Ways, WellCache, set_of, empty_cache, use_line, way_for}
 use Rattle.cache.specs.declared.Cache.{Cache}
-use Rattle.cache.specs.declared.Entry.TheVariants.{Hit}
 use Rattle.cache.specs.Entries.{cache_of, Sized, held_line, held_frame, is_valid, held_bytes, home, found, way_taken, entry_taken, Has, SameAt, All, bytes_in, is_valid_in}
 use Rattle.cache.specs.Steps.{emptied, placed_in}
 use Rattle.cache.specs.Shown.{line_in, way_of, shown}
@@ -152,7 +152,7 @@ unfolding emptied
 empty-sized = record { held = refl; origins = refl; valid = refl; bytes = refl; last = refl }
 
 -- A use of a line that the cache holds, with its entry's frame and other bytes: the line, the frame and the flag stay.
-pub hit-edited : (c : Cache) (l e : ℕ) → found c l ≡ Hit e → (content bytes last : List ℕ) → bytes ≡ paste_line c.bytes (16 * e) content
+pub hit-edited : (c : Cache) (l e : ℕ) → found c l ≡ Some e → (content bytes last : List ℕ) → bytes ≡ paste_line c.bytes (16 * e) content
     → last ≡ set c.last (e / 2) (e % 2) → cache_of c.held c.origins c.valid bytes last ≡ placed_in c l (held_frame c e) content
 unfolding placed_in is_valid_in
 hit-edited c l e h content bytes last edited after =
@@ -165,7 +165,7 @@ hit-edited c l e h content bytes last edited after =
     ((edited ∙ ap (λ (x : ℕ). paste_line c.bytes (16 * x) content) f.taken) i) ((after ∙ ap₂ (set c.last) f.set way) i)
 
 -- With its own bytes too, only the way used last is another.
-pub hit-placed : (c : Cache) (l e : ℕ) → found c l ≡ Hit e → (last : List ℕ) → last ≡ set c.last (e / 2) (e % 2)
+pub hit-placed : (c : Cache) (l e : ℕ) → found c l ≡ Some e → (last : List ℕ) → last ≡ set c.last (e / 2) (e % 2)
     → cache_of c.held c.origins c.valid c.bytes last ≡ placed_in c l (held_frame c e) (held_bytes c e)
 unfolding bytes_in
 hit-placed c l e h last after = hit-edited c l e h (line_at c.bytes (16 * e)) c.bytes last (sym (paste-own c.bytes (16 * e))) after

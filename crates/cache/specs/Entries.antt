@@ -1,10 +1,8 @@
--- The entries of the cache: "The cache has 16 sets of two ways; a line's set is its number modulo 16." Entry 2 * set + way.
-use Rattle.std.specs.Prelude.{ℕ, ◌+◌, ◌*◌, ◌/◌, ◌%◌, ◌<◌, ◌≡◌, Bool, true, false, cond, not, ◌&&◌, List, eqb, length, get_or}
+-- The entries of the cache: "The cache has 16 sets of two ways; a line's set is its number modulo 16." Option ℕ 2 * set + way.
+use Rattle.std.specs.Prelude.{ℕ, ◌+◌, ◌*◌, ◌/◌, ◌%◌, ◌<◌, ◌≡◌, Bool, true, false, cond, not, ◌&&◌, List, eqb, length, get_or, Option, Some, None}
 use Rattle.rules.specs.Figure3.{set_of}
 use Rattle.lists.specs.Lines.{line_at}
 use Rattle.cache.specs.declared.Cache.{Cache}
-use Rattle.cache.specs.declared.Entry.{Entry}
-use Rattle.cache.specs.declared.Entry.TheVariants.{Hit, Miss}
 
 -- The lengths of the cache's arrays. Code has them of every cache; a law on lists asks for them.
 pub record Sized (c : Cache) : Type 0 where
@@ -49,26 +47,26 @@ abbrev pub is_at : Cache → ℕ → ℕ → Bool
 is_at c e l = is_at_in c.held c.valid e l
 
 -- The entry that holds a line.
-unfoldable pub hit_in : (lines valid : List ℕ) → ℕ → Entry
+unfoldable pub hit_in : (lines valid : List ℕ) → ℕ → Option ℕ
 hit_in lines valid l =
-    cond (is_at_in lines valid (home l) l) (Hit (home l)) (cond (is_at_in lines valid (home l + 1) l) (Hit (home l + 1)) Miss)
+    cond (is_at_in lines valid (home l) l) (Some (home l)) (cond (is_at_in lines valid (home l + 1) l) (Some (home l + 1)) None)
 
-abbrev pub found : Cache → ℕ → Entry
+abbrev pub found : Cache → ℕ → Option ℕ
 found c l = hit_in c.held c.valid l
 
 -- That entry where it has this frame.
-unfoldable pub of_frame : (origins : List ℕ) → (frame : ℕ) → Entry → Entry
-of_frame origins f (Hit e) = cond (eqb (get_or origins e 0) f) (Hit e) Miss
-of_frame origins f Miss = Miss
+unfoldable pub of_frame : (origins : List ℕ) → (frame : ℕ) → Option ℕ → Option ℕ
+of_frame origins f (Some e) = cond (eqb (get_or origins e 0) f) (Some e) None
+of_frame origins f None = None
 
 -- What is asked of an entry that is handed on: a hit is one of the 32.
-abbrev pub AsksFound : Entry → Type 0
-AsksFound r = (e : ℕ) → r ≡ Hit e → e < 32
+abbrev pub AsksFound : Option ℕ → Type 0
+AsksFound r = (e : ℕ) → r ≡ Some e → e < 32
 
 -- Whether there is one.
-unfoldable pub is_hit : Entry → Bool
-is_hit (Hit e) = true
-is_hit Miss = false
+unfoldable pub is_hit : Option ℕ → Bool
+is_hit (Some e) = true
+is_hit None = false
 
 -- The way of its set that a line takes which is in neither: "A miss, of a read or a write, takes way 0 if it is invalid, else way 1 if that is
 -- invalid, else the less recently used way".
@@ -82,9 +80,9 @@ way_in lines valid last l =
     cond (is_at_in lines valid (home l) l) 0 (cond (is_at_in lines valid (home l + 1) l) 1 (free_way valid last (set_of l)))
 
 -- The same by the entry that was found for the line.
-unfoldable pub way_from : (valid last : List ℕ) → (line : ℕ) → Entry → ℕ
-way_from valid last l (Hit e) = e % 2
-way_from valid last l Miss = free_way valid last (set_of l)
+unfoldable pub way_from : (valid last : List ℕ) → (line : ℕ) → Option ℕ → ℕ
+way_from valid last l (Some e) = e % 2
+way_from valid last l None = free_way valid last (set_of l)
 
 abbrev pub way_taken : Cache → ℕ → ℕ
 way_taken c l = way_in c.held c.valid c.last l

@@ -12,7 +12,8 @@ ghost use Rattle.cache.specs.Entries.{cache_of, is_valid_in, bytes_in, held_byte
 ghost use Rattle.cache.specs.Steps.{emptied, placed_in, is_below, flag_after, flags_after, frame_after, frames_after};
 ghost use Rattle.cache.specs.Shown.{shown};
 
-// The entry of a set's way is 2 * set + way.
+// The entry of a set's way is 2 * set + way. C's programs hold this struct, and the exports for C lend each array by a reference of its own:
+// so an entry is one place in four arrays, with a flag and ARCHIVE for what an Option would say, and the functions take the arrays apart.
 #[repr(C)]
 #[derive(Clone, Copy)]
 pub struct Cache {
@@ -30,131 +31,97 @@ pub struct Cache {
 
 pub const ARCHIVE: u16 = 65535;
 
-// The entry that holds a line.
-#[derive(Clone, Copy)]
-pub enum Entry {
-    Hit(u32),
-    Miss,
-}
-
 // The cache after RESET.
 pub fn empty() -> Cache
     ensures { (result ≡ emptied) × (shown result ≡ empty_cache) }
 {
-    let held = [0u32; 32];
-    let origins = [0u16; 32];
-    let valid = [0u8; 32];
-    let bytes = [0u8; 512];
-    let last = [0u8; 16];
     Cache {
-        held,
-        origins,
-        valid,
-        bytes,
-        last,
+        held: [0; 32],
+        origins: [0; 32],
+        valid: [0; 32],
+        bytes: [0; 512],
+        last: [0; 16],
     }
 }
 
 // Whether an entry is valid.
+#[tactic(auto, unfolding(crate::specs::Entries::is_valid_in))]
 fn is_valid(valid: &[u8; 32], entry: u32) -> bool
     requires { entry < 32 }
     ensures { result ≡ is_valid_in valid.now entry }
 {
-    let at = entry as usize;
-    if valid[at] == 1 {
-        return true;
-    }
-    false
+    valid[entry as usize] == 1
 }
 
 // Whether an entry is valid and holds the line.
+#[tactic(auto, unfolding(crate::specs::Entries::is_at_in))]
 fn is_at<'a>(held: &'a [u32; 32], valid: &'a [u8; 32], entry: u32, line: u32) -> bool
     requires { entry < 32 }
     ensures { result ≡ is_at_in held.now valid.now entry line }
 {
-    if !is_valid(valid, entry) {
-        return false;
-    }
-    let at = entry as usize;
-    if held[at] == line {
-        return true;
-    }
-    false
+    is_valid(valid, entry) && held[entry as usize] == line
 }
 
-// The entry of the line's set that is valid and holds the line, way 0 first.
-pub fn find<'a>(held: &'a [u32; 32], valid: &'a [u8; 32], line: u32) -> Entry
+// The entry of the line's set that is valid and holds the line, way 0 first, if one does.
+#[tactic(auto, unfolding(crate::specs::Entries::hit_in))]
+pub fn find<'a>(held: &'a [u32; 32], valid: &'a [u8; 32], line: u32) -> Option<u32>
     ensures { result ≡ hit_in held.now valid.now line }
 {
     let first = 2 * (line % 16);
     let second = first + 1;
     if is_at(held, valid, first, line) {
-        return Entry::Hit(first);
+        Some(first)
+    } else if is_at(held, valid, second, line) {
+        Some(second)
+    } else {
+        None
     }
-    if is_at(held, valid, second, line) {
-        return Entry::Hit(second);
-    }
-    Entry::Miss
 }
 
 // An entry that was found, if it has this frame.
-pub fn of_frame(origins: &[u16; 32], found: Entry, frame: u32) -> Entry
+#[tactic(auto, unfolding(crate::specs::Entries::of_frame))]
+pub fn of_frame(origins: &[u16; 32], found: Option<u32>, frame: u32) -> Option<u32>
     requires { AsksFound found }
     ensures { result ≡ of_frame origins.now frame found }
 {
-    match found {
-        Entry::Hit(entry) => {
-            if numbers::widen_u16(frame_of(origins, entry)) == frame {
-                return Entry::Hit(entry);
-            }
-            Entry::Miss
-        }
-        Entry::Miss => Entry::Miss,
-    }
+    found.filter(|&entry| u32::from(frame_of(origins, entry)) == frame)
 }
 
 // The way of its set that a line takes which is in neither.
+#[tactic(auto, unfolding(crate::specs::Entries::free_way))]
 fn free_way<'a>(valid: &'a [u8; 32], last: &'a [u8; 16], set: u32) -> u32
     requires { set < 16 }
     ensures { (result ≡ free_way valid.now last.now set) × (result < 2) }
 {
     let first = 2 * set;
     if !is_valid(valid, first) {
-        return 0;
+        0
+    } else if !is_valid(valid, first + 1) {
+        1
+    } else if last[set as usize] == 0 {
+        1
+    } else {
+        0
     }
-    if !is_valid(valid, first + 1) {
-        return 1;
-    }
-    let at = set as usize;
-    if last[at] == 0 {
-        return 1;
-    }
-    0
 }
 
 // The way that a use of a line takes, by the entry that was found for it.
-fn way_of<'a>(valid: &'a [u8; 32], last: &'a [u8; 16], line: u32, found: Entry) -> u32
+#[tactic(auto, unfolding(crate::specs::Entries::way_from))]
+fn way_of<'a>(valid: &'a [u8; 32], last: &'a [u8; 16], line: u32, found: Option<u32>) -> u32
     ensures { (result ≡ way_from valid.now last.now line found) × (result < 2) }
 {
     match found {
-        Entry::Hit(entry) => entry % 2,
-        Entry::Miss => free_way(valid, last, line % 16),
+        Some(entry) => entry % 2,
+        None => free_way(valid, last, line % 16),
     }
 }
 
-// That the bytes are 512 is in their type, and code that has them behind a reference learns it here. The copy is never read, so that
-// nothing of it is left in the compiled code.
-fn has_all(bytes: [u8; 512])
-    ensures { length bytes ≡ 512 }
-{}
-
 // The 16 bytes of an entry.
+#[tactic(auto, unfolding(crate::specs::Entries::bytes_in))]
 pub fn line_at(bytes: &[u8; 512], entry: u32) -> [u8; 16]
     requires { entry < 32 }
     ensures { result ≡ bytes_in bytes.now entry }
 {
-    let all = *bytes;
-    has_all(all);
     lists::read_line(bytes, 16 * (entry as usize))
 }
 
@@ -163,8 +130,6 @@ pub fn value_at(bytes: &[u8; 512], entry: u32, width: u32, offset: u32) -> u32
     requires { (entry < 32) × (AsksBytes width offset) }
     ensures { result ≡ value_at width offset (bytes_in bytes.now entry) }
 {
-    let all = *bytes;
-    has_all(all);
     lists::read_value(bytes, (16 * entry + offset) as usize, width)
 }
 
@@ -173,8 +138,6 @@ pub fn edit_at(bytes: &mut [u8; 512], entry: u32, width: u32, offset: u32, value
     requires { (entry < 32) × (AsksBytes width offset) }
     ensures { bytes.new ≡ paste_line bytes.old (16 * entry) (edit width offset value (bytes_in bytes.old entry)) }
 {
-    let all = *bytes;
-    has_all(all);
     lists::write_value(bytes, (16 * entry + offset) as usize, width, value);
 }
 
@@ -191,54 +154,7 @@ pub fn frame_of(origins: &[u16; 32], entry: u32) -> u16
     requires { entry < 32 }
     ensures { result ≡ get_or origins.now entry 0 }
 {
-    let at = entry as usize;
-    origins[at]
-}
-
-// Gives an entry its line,
-fn set_line(held: &mut [u32; 32], entry: u32, line: u32)
-    requires { entry < 32 }
-    ensures { held.new ≡ ListN.set held.old entry line }
-{
-    let at = entry as usize;
-    held[at] = line;
-}
-
-// the frame of its line's most recent version,
-fn set_frame(origins: &mut [u16; 32], entry: u32, frame: u16)
-    requires { entry < 32 }
-    ensures { origins.new ≡ ListN.set origins.old entry frame }
-{
-    let at = entry as usize;
-    origins[at] = frame;
-}
-
-// its valid flag
-fn set_valid(valid: &mut [u8; 32], entry: u32)
-    requires { entry < 32 }
-    ensures { valid.new ≡ ListN.set valid.old entry 1 }
-{
-    let at = entry as usize;
-    valid[at] = 1;
-}
-
-// and its bytes.
-fn set_bytes(bytes: &mut [u8; 512], entry: u32, line: [u8; 16])
-    requires { entry < 32 }
-    ensures { bytes.new ≡ paste_line bytes.old (16 * entry) line }
-{
-    let all = *bytes;
-    has_all(all);
-    lists::write_line(bytes, 16 * (entry as usize), line);
-}
-
-// Notes the way of a set that was used last.
-fn set_last(last: &mut [u8; 16], set: u32, way: u32)
-    requires { (set < 16) × (way < 2) }
-    ensures { last.new ≡ ListN.set last.old set way }
-{
-    let at = set as usize;
-    last[at] = way as u8;
+    origins[entry as usize]
 }
 
 // A use of a line, by a read or a write: the way taken has it with this frame and these bytes and was used last. The set is not looked up
@@ -250,7 +166,7 @@ pub fn place(
     bytes: &mut [u8; 512],
     last: &mut [u8; 16],
     line: u32,
-    found: Entry,
+    found: Option<u32>,
     frame: u16,
     content: [u8; 16],
 )
@@ -260,12 +176,12 @@ pub fn place(
 {
     let way = way_of(valid, last, line, found);
     let set = line % 16;
-    let entry = 2 * set + way;
-    set_line(held, entry, line);
-    set_frame(origins, entry, frame);
-    set_valid(valid, entry);
-    set_bytes(bytes, entry, content);
-    set_last(last, set, way);
+    let entry = (2 * set + way) as usize;
+    held[entry] = line;
+    origins[entry] = frame;
+    valid[entry] = 1;
+    lists::write_line(bytes, 16 * entry, content);
+    last[set as usize] = way as u8;
 }
 
 // A use of the line that an entry holds: its way was used last, and the entry stays as it is.
@@ -273,69 +189,63 @@ pub fn recall(last: &mut [u8; 16], entry: u32)
     requires { entry < 32 }
     ensures { last.new ≡ ListN.set last.old (entry / 2) (entry % 2) }
 {
-    set_last(last, entry / 2, entry % 2);
+    last[(entry / 2) as usize] = (entry % 2) as u8;
 }
 
 // Whether a frame number lies on the circle with an index from OMF below n.
+#[tactic(auto, unfolding(crate::specs::Steps::is_below))]
 fn is_below(frame: u16, frames: u32, omf: u32, n: u32) -> bool
     requires { Turn frames omf omf }
     ensures { result ≡ is_below frames omf n frame }
 {
-    let number = frame as u32;
-    if frames <= number {
-        return false;
-    }
-    if frames::index(frames, omf, number) < n {
-        return true;
-    }
-    false
+    let number = u32::from(frame);
+    number < frames && frames::index(frames, omf, number) < n
 }
 
 // An entry's valid flag after a rollback that keeps the frames with an index below `kept`.
+#[tactic(auto, unfolding(crate::specs::Steps::flag_after, crate::specs::Steps::is_dropped))]
 fn flag_after(frame: u16, flag: u8, frames: u32, omf: u32, kept: u32) -> u8
     requires { Turn frames omf omf }
     ensures { result ≡ flag_after frames omf kept frame flag }
 {
-    if frame == ARCHIVE {
-        return flag;
+    if frame == ARCHIVE || is_below(frame, frames, omf, kept) {
+        flag
+    } else {
+        0
     }
-    if is_below(frame, frames, omf, kept) {
-        return flag;
-    }
-    0
 }
 
 // A rollback that keeps the frames with an index below `kept`: the entries of the others are no longer valid.
+#[tactic(auto, unfolding(lists::specs::Lists::rewrite, crate::specs::Steps::flags_after))]
 pub fn forget(origins: &[u16; 32], valid: &mut [u8; 32], frames: u32, omf: u32, kept: u32)
     requires { Turn frames omf omf }
     ensures { valid.new ≡ flags_after origins.now frames omf kept valid.old }
 {
-    let mut i = 0;
-    while i < 32 {
-        valid[i] = flag_after(origins[i], valid[i], frames, omf, kept);
-        i += 1;
+    for (entry, flag) in valid.iter_mut().enumerate() {
+        *flag = flag_after(origins[entry], *flag, frames, omf, kept);
     }
 }
 
 // An entry's frame after an advance over the k frames from this OMF on.
+#[tactic(auto, unfolding(crate::specs::Steps::frame_after))]
 fn frame_after(frame: u16, frames: u32, omf: u32, k: u32) -> u16
     requires { Turn frames omf omf }
     ensures { result ≡ frame_after frames omf k frame }
 {
     if is_below(frame, frames, omf, k) {
-        return ARCHIVE;
+        ARCHIVE
+    } else {
+        frame
     }
-    frame
 }
 
 // An advance over the k frames from this OMF on: their lines count as the archive's.
+#[tactic(auto, unfolding(lists::specs::Lists::rewrite, crate::specs::Steps::frames_after))]
 pub fn collect(origins: &mut [u16; 32], frames: u32, omf: u32, k: u32)
     requires { Turn frames omf omf }
     ensures { origins.new ≡ frames_after frames omf k origins.old }
 {
-    let mut i = 0;
-    while i < 32 {
-        origins[i] = frame_after(origins[i], frames, omf, k);
-        i += 1;
+    for frame in origins.iter_mut() {
+        *frame = frame_after(*frame, frames, omf, k);
     }
 }

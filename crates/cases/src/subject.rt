@@ -2,163 +2,167 @@
 ghost use Rattle.std.specs.Prelude.{◌≤◌};
 
 use crate::block;
-use choices::asked;
 use choices::asked::Asked;
-use copies::{Answer, Call, Lengths, Plain, pieces};
-use store::{Origin, Outcome, State};
+use copies::{Answer, Call, Kind, Lengths, Plain, Refusal, Said};
+use store::{Origin, State};
 
-// The state after a call, its answer, and those to the items of a block.
+// The state after a call, and its answer.
 #[derive(Clone, Copy)]
 pub struct Told {
     pub state: State,
     pub answer: Answer,
-    pub answers: [u32; 256],
 }
 
-// A call that was made, and how much of each piece was lent to it.
-#[derive(Clone, Copy)]
-pub struct Played {
-    pub told: Told,
-    pub lent: Lengths,
-}
-
-// An answer with these numbers.
-pub fn said(refusal: u32, first: usize, second: usize, third: usize) -> Answer {
-    Answer {
-        refusal: refusal as usize,
-        first,
-        second,
-        third,
+// What a call of the store came to, as the second store names it.
+pub fn outcome_of<T>(made: &Result<T, store::Refusal>) -> Result<(), Refusal> {
+    match made {
+        Ok(_) => Ok(()),
+        Err(refusal) => Err(Refusal::from(u32::from(*refusal))),
     }
 }
 
-// A call of no items.
-fn single(state: State, answer: Answer) -> Told {
-    Told {
-        state,
-        answer,
-        answers: pieces::unanswered(),
-    }
-}
-
-// A call that answers no more than its refusal.
-fn outcome(made: Outcome) -> Told {
-    single(made.state, said(made.refusal, 0, 0, 0))
-}
-
-// A call that opens, drops or collects frames, or a RESET; no call is unanswered.
-fn turn(
-    state: State,
-    archive: &mut [u8],
-    pool: &[u8],
-    groups: &mut [u32],
-    table: &[u16],
-    owners: &mut [u32],
-    history: &mut [u16],
-    call: Call,
-) -> Outcome {
-    if call.kind == copies::MARK {
-        return store::mark(state, archive, pool, groups, table, owners, history);
-    }
-    if call.kind == copies::ROLLBACK {
-        return store::rollback(state, archive, pool, groups, table, owners, history, call.a);
-    }
-    if call.kind == copies::ADVANCE {
-        return store::advance(state, archive, pool, groups, table, owners, history, call.a);
-    }
-    if call.kind == copies::RESET {
-        return store::reset(
-            state, archive, pool, groups, table, owners, history, call.a, call.b, call.c,
-        );
-    }
-    Outcome { state, refusal: 77 }
-}
-
-fn origin_of(origin: Origin) -> usize {
+fn origin_of(origin: Origin) -> copies::Origin {
     match origin {
-        Origin::Cache => copies::CACHE,
-        Origin::Frame(back) => back as usize,
-        Origin::Archive => copies::ARCHIVE,
-        Origin::Empty => copies::EMPTY,
+        Origin::Cache => copies::Origin::Cache,
+        Origin::Frame(back) => copies::Origin::Frame(back as usize),
+        Origin::Archive => copies::Origin::Archive,
+        Origin::Empty => copies::Origin::Empty,
     }
-}
-
-fn flag(yes: bool) -> usize {
-    if yes {
-        return 1;
-    }
-    0
-}
-
-fn wide(byte: u8) -> usize {
-    byte as usize
 }
 
 // The number that up to 8 bytes of a lent line make.
 fn number(line: &[u8], from: usize) -> usize {
-    let mut n: usize = 0;
-    for i in from..from % 16 + 8 {
-        if i < line.len() {
-            n = (n << 8) | wide(line[i]);
-        }
-    }
-    n
+    line.iter()
+        .skip(from)
+        .take(8)
+        .fold(0, |n, byte| (n << 8) | usize::from(*byte))
 }
 
 // LINE: the part that it lends, and the refusal that its companion gives on the same arguments.
-fn line<'a>(
+fn line(
     state: State,
-    archive: &'a [u8],
-    pool: &'a [u8],
+    archive: &[u8],
+    pool: &[u8],
     groups: &[u32],
     table: &[u16],
     owners: &[u32],
     history: &[u16],
     line: u32,
-) -> Answer {
-    let refusal = store::line_refusal(state, archive, pool, groups, table, owners, history, line);
+) -> Told {
+    let made = store::line_refusal(state, archive, pool, groups, table, owners, history, line);
     let lent = store::line(state, archive, pool, groups, table, owners, history, line);
-    said(refusal, number(lent, 0), number(lent, 8), lent.len())
+    let said = Said::Line {
+        first: number(lent, 0),
+        second: number(lent, 8),
+        length: lent.len(),
+    };
+    let outcome = outcome_of(&made);
+    Told {
+        state,
+        answer: Answer { outcome, said },
+    }
 }
 
-// A call that leaves the lent memory as it is.
-fn look<'a>(
+fn read(
     state: State,
-    archive: &'a [u8],
-    pool: &'a [u8],
+    archive: &[u8],
+    pool: &[u8],
     groups: &[u32],
     table: &[u16],
     owners: &[u32],
     history: &[u16],
     call: Call,
 ) -> Told {
-    if call.kind == copies::READ {
-        let made = store::read(
-            state, archive, pool, groups, table, owners, history, call.a, call.b,
-        );
-        let after = made.state;
-        let origin = made.origin;
-        let answer = said(made.refusal, made.value as usize, origin_of(origin), 0);
-        return single(after, answer);
+    let made = store::read(
+        state, archive, pool, groups, table, owners, history, call.a, call.b,
+    );
+    let outcome = outcome_of(&made);
+    match made {
+        Ok(got) => Told {
+            state: got.state,
+            answer: Answer {
+                outcome,
+                said: Said::Read {
+                    value: got.value as usize,
+                    origin: origin_of(got.origin),
+                },
+            },
+        },
+        Err(_) => Told {
+            state,
+            answer: Answer {
+                outcome,
+                said: Said::refused(Kind::Read),
+            },
+        },
     }
-    if call.kind == copies::LINE {
-        let answer = line(state, archive, pool, groups, table, owners, history, call.a);
-        return single(state, answer);
-    }
-    if call.kind == copies::COUNTS {
-        let made = store::counts(state, archive, pool, groups, table, owners, history);
-        let answer = said(made.refusal, made.live as usize, made.pages as usize, 0);
-        return single(state, answer);
-    }
-    let made = store::check(state, archive, pool, groups, table, owners, history);
-    let answer = said(made.refusal, flag(made.yes), 0, 0);
-    single(state, answer)
 }
 
-fn is_look(kind: u32) -> bool {
-    match kind {
-        copies::READ | copies::LINE | copies::COUNTS | copies::CHECK => true,
-        _ => false,
+fn counts(
+    state: State,
+    archive: &[u8],
+    pool: &[u8],
+    groups: &[u32],
+    table: &[u16],
+    owners: &[u32],
+    history: &[u16],
+) -> Told {
+    let made = store::counts(state, archive, pool, groups, table, owners, history);
+    let outcome = outcome_of(&made);
+    let said = match made {
+        Ok(got) => Said::Counts {
+            live: got.live as usize,
+            pages: got.pages as usize,
+        },
+        Err(_) => Said::refused(Kind::Counts),
+    };
+    Told {
+        state,
+        answer: Answer { outcome, said },
+    }
+}
+
+fn check(
+    state: State,
+    archive: &[u8],
+    pool: &[u8],
+    groups: &[u32],
+    table: &[u16],
+    owners: &[u32],
+    history: &[u16],
+) -> Told {
+    let made = store::check(state, archive, pool, groups, table, owners, history);
+    let outcome = outcome_of(&made);
+    let said = Said::Check(made.unwrap_or(false));
+    Told {
+        state,
+        answer: Answer { outcome, said },
+    }
+}
+
+// A call that gives no more than the state.
+fn change(
+    state: State,
+    archive: &mut [u8],
+    pool: &mut [u8],
+    groups: &mut [u32],
+    table: &mut [u16],
+    owners: &mut [u32],
+    history: &mut [u16],
+    call: Call,
+) -> Result<State, store::Refusal> {
+    match call.kind {
+        Kind::Reset => store::reset(
+            state, archive, pool, groups, table, owners, history, call.a, call.b, call.c,
+        ),
+        Kind::Write => store::write(
+            state, archive, pool, groups, table, owners, history, call.a, call.b, call.c,
+        ),
+        Kind::Mark => store::mark(state, archive, pool, groups, table, owners, history),
+        Kind::Rollback => {
+            store::rollback(state, archive, pool, groups, table, owners, history, call.a)
+        }
+        _ => store::advance(state, archive, pool, groups, table, owners, history, call.a),
     }
 }
 
@@ -173,31 +177,28 @@ fn made(
     history: &mut [u16],
     items: &[u32],
     call: Call,
+    answers: &mut [u32; 256],
 ) -> Told {
-    if is_look(call.kind) {
-        return look(state, archive, pool, groups, table, owners, history, call);
+    match call.kind {
+        Kind::Read => read(state, archive, pool, groups, table, owners, history, call),
+        Kind::Line => line(state, archive, pool, groups, table, owners, history, call.a),
+        Kind::Counts => counts(state, archive, pool, groups, table, owners, history),
+        Kind::Check => check(state, archive, pool, groups, table, owners, history),
+        Kind::Block => block::call(
+            state, archive, pool, groups, table, owners, history, items, call, answers,
+        ),
+        _ => {
+            let made = change(state, archive, pool, groups, table, owners, history, call);
+            let outcome = outcome_of(&made);
+            Told {
+                state: made.unwrap_or(state),
+                answer: Answer {
+                    outcome,
+                    said: Said::Nothing,
+                },
+            }
+        }
     }
-    if call.kind == copies::BLOCK {
-        return block::call(
-            state, archive, pool, groups, table, owners, history, items, call,
-        );
-    }
-    if call.kind == copies::WRITE {
-        return outcome(store::write(
-            state, archive, pool, groups, table, owners, history, call.a, call.b, call.c,
-        ));
-    }
-    outcome(turn(state, archive, pool, groups, table, owners, history, call))
-}
-
-// So many elements of a piece, or all where it has no more.
-fn part(have: usize, want: usize) -> usize
-    ensures { result ≤ have }
-{
-    if want <= have {
-        return want;
-    }
-    have
 }
 
 // So much of each piece, as far as there is so much.
@@ -205,32 +206,30 @@ fn fitting(have: Lengths, want: Lengths) -> Lengths
     ensures { (result.archive ≤ have.archive) × (result.pool ≤ have.pool) × (result.groups ≤ have.groups) × (result.table ≤ have.table) × (result.owners ≤ have.owners) × (result.history ≤ have.history) }
 {
     Lengths {
-        archive: part(have.archive, want.archive),
-        pool: part(have.pool, want.pool),
-        groups: part(have.groups, want.groups),
-        table: part(have.table, want.table),
-        owners: part(have.owners, want.owners),
-        history: part(have.history, want.history),
+        archive: want.archive.min(have.archive),
+        pool: want.pool.min(have.pool),
+        groups: want.groups.min(have.groups),
+        table: want.table.min(have.table),
+        owners: want.owners.min(have.owners),
+        history: want.history.min(have.history),
     }
 }
 
 // The state that a call is made on.
 fn given(state: State, call: Call) -> State {
-    if call.blank {
-        return store::blank();
-    }
-    state
+    if call.blank { store::blank() } else { state }
 }
 
 // The state after a call; made on the blank state, a refused call leaves the store's as it was.
 pub fn kept(before: State, call: Call, told: Told) -> State {
-    if call.blank && told.answer.refusal != 0 {
+    if call.blank && told.answer.outcome.is_err() {
         return before;
     }
     told.state
 }
 
-// A call on the store, with so much of each piece lent as is asked for by the plain store's settings.
+// A call on the store, with so much of each piece lent as is asked for by the plain store's settings; and how much that was. What is put into
+// the answers are those to the items of a block.
 pub fn call(
     state: State,
     archive: &mut [u8],
@@ -241,9 +240,9 @@ pub fn call(
     history: &mut [u16],
     items: &[u32],
     asked: Asked,
-    plain: Plain,
-) -> Played {
-    let call = asked.call;
+    plain: &Plain,
+    answers: &mut [u32; 256],
+) -> (Told, Lengths) {
     let have = Lengths {
         archive: archive.len(),
         pool: pool.len(),
@@ -252,23 +251,18 @@ pub fn call(
         owners: owners.len(),
         history: history.len(),
     };
-    let lent = fitting(have, asked::lengths(asked, plain));
-    let a = lent.archive;
-    let p = lent.pool;
-    let g = lent.groups;
-    let t = lent.table;
-    let o = lent.owners;
-    let h = lent.history;
+    let lent = fitting(have, asked.lengths(plain));
     let told = made(
-        given(state, call),
-        &mut archive[0..a],
-        &mut pool[0..p],
-        &mut groups[0..g],
-        &mut table[0..t],
-        &mut owners[0..o],
-        &mut history[0..h],
+        given(state, asked.call),
+        &mut archive[..lent.archive],
+        &mut pool[..lent.pool],
+        &mut groups[..lent.groups],
+        &mut table[..lent.table],
+        &mut owners[..lent.owners],
+        &mut history[..lent.history],
         items,
-        call,
+        asked.call,
+        answers,
     );
-    Played { told, lent }
+    (told, lent)
 }

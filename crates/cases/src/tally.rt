@@ -1,108 +1,77 @@
-// What is printed: answers, differences, and what was covered.
-use choices::counts;
+// What is printed: answers, differences, and what was covered. A write that fails is let be: what is missing is seen where the output is
+// compared.
 use choices::counts::Tally;
-use copies::{Answer, Call};
-
-// Prints bytes. A write that fails is let be: what is missing is seen where the output is compared.
-pub fn put(rt: &impl Print, words: &[u8]) {
-    let _ = rt.write_all(words);
-}
-
-fn say(rt: &impl Print, words: &[u8], n: usize) {
-    put(rt, words);
-    let _ = rt.print(n);
-}
-
-// The numbers of an answer.
-pub fn print_answer(rt: &impl Print, words: &[u8], answer: Answer) {
-    say(rt, words, answer.refusal);
-    say(rt, b" ", answer.first);
-    say(rt, b" ", answer.second);
-    say(rt, b" ", answer.third);
-}
-
-fn wide(n: u32) -> usize {
-    n as usize
-}
-
-// The answers that were lent to a block.
-pub fn print_answers(rt: &impl Print, answers: [u32; 256], count: usize) {
-    put(rt, b", answers");
-    for i in 0..count {
-        if i < 256 {
-            say(rt, b" ", wide(answers[i]));
-        }
-    }
-}
-
-// The word of a call, filled up to 8 bytes.
-fn print_word(rt: &impl Print, words: &[u8], kind: u32) {
-    let at = (kind % 16 * 8) as usize;
-    let end = at + 8;
-    if end <= words.len() {
-        put(rt, &words[at..end]);
-    }
-}
+use copies::{Answer, Call, Plain};
 
 // A call with its arguments, and what the store and the plain store say.
-fn print_difference(rt: &impl Print, call: Call, store: Answer, plain: Answer) {
-    put(rt, b"\n  difference: ");
-    print_word(
-        rt,
-        b"reset   write   read    line    mark    back    advance counts  check   block   ",
-        call.kind,
-    );
-    say(rt, b"", call.a as usize);
-    say(rt, b" ", call.b as usize);
-    say(rt, b" ", call.c as usize);
-    print_answer(rt, b": store ", store);
-    print_answer(rt, b", plain ", plain);
+pub fn print_difference(rt: &impl Print, call: Call, store: Answer, plain: Answer) {
+    let Call { kind, a, b, c, .. } = call;
+    let _ = print!(rt; "\n  difference: {kind:<8}{a} {b} {c}: store {store}, plain {plain}");
 }
 
-// A call is counted, and its two answers are compared. A difference is printed if it is one of the first.
-pub fn judged(
-    rt: &impl Print,
-    tally: Tally,
-    call: Call,
-    deed: usize,
-    store: Answer,
-    plain: Answer,
-) -> Tally {
-    if !copies::is_same(store, plain) && tally.n[29] < 6 {
-        print_difference(rt, call, store, plain);
+fn print_count(rt: &impl Print, name: &str, n: usize) {
+    let _ = println!(rt; "{name:<13}{n}");
+}
+
+fn print_accepted(rt: &impl Print, tally: &Tally) {
+    print_count(rt, "accepted", tally.accepted);
+    print_count(rt, "from cache", tally.from_cache);
+    print_count(rt, "from frame", tally.from_frame);
+    print_count(rt, "from archive", tally.from_archive);
+}
+
+fn print_refused(rt: &impl Print, tally: &Tally) {
+    for (refusal, n) in tally.refused.iter().enumerate().skip(4) {
+        let _ = println!(rt; "refused {refusal:<5}{n}");
     }
-    counts::judged(tally, call.kind, deed, store, plain)
 }
 
-// The end of a run's line.
-pub fn print_differences(rt: &impl Print, tally: Tally) {
-    say(rt, b": differences ", tally.n[29]);
-    put(rt, b"\n");
-}
-
-// The counts, each behind its name of 13 bytes.
-fn print_list(rt: &impl Print, names: &[u8], counts: &[usize]) {
-    for i in 0..counts.len() {
-        let end = i % 256 * 13 + 13;
-        if end <= names.len() {
-            put(rt, &names[end - 13..end]);
-            say(rt, b"", counts[i]);
-            put(rt, b"\n");
-        }
+fn print_kinds(rt: &impl Print, tally: &Tally) {
+    let names = [
+        "reset", "write", "read", "line", "mark", "rollback", "advance", "counts", "check", "block",
+    ];
+    for (name, n) in names.iter().zip(tally.kinds.iter()) {
+        print_count(rt, name, *n);
     }
+}
+
+// What calls did, with the plain store's own counts.
+fn print_deeds(rt: &impl Print, tally: &Tally, plain: &Plain) {
+    print_count(rt, "resets done", tally.resets);
+    print_count(rt, "sweeps", tally.sweeps);
+    print_count(rt, "turns", tally.turns);
+    print_count(rt, "CHECK yes", tally.yes);
+    print_count(rt, "differences", tally.differences);
+    print_count(rt, "most live", plain.highest);
+    print_count(rt, "room again", plain.rooms);
+    print_count(rt, "conflicts", plain.cache.conflicts);
+}
+
+fn print_items(rt: &impl Print, tally: &Tally) {
+    print_count(rt, "items", tally.items);
+    print_count(rt, "items done", tally.items_done);
+    for refusal in [7, 8, 9, 10, 13usize] {
+        let n = tally.refused_items[refusal];
+        let _ = println!(rt; "items got {refusal:<3}{n}");
+    }
+    print_count(rt, "behind a 13", tally.behind);
+}
+
+fn print_blocks(rt: &impl Print, tally: &Tally) {
+    print_count(rt, "empty blocks", tally.empty_blocks);
+    print_count(rt, "equal lists", tally.equal_lists);
+    print_count(rt, "longer lists", tally.longer_lists);
+    print_count(rt, "5 before 14", tally.blank_first);
+    print_count(rt, "6 before 14", tally.short_first);
 }
 
 // All that was covered.
-pub fn print(rt: &impl Print, tally: Tally) {
-    let n = tally.n;
-    print_list(
-        rt,
-        b"accepted     from cache   from frame   from archive refused 4    refused 5    refused 6    refused 7    \
-        refused 8    refused 9    refused 10   refused 11   refused 12   refused 13   refused 14   reset        \
-        write        read         line         mark         rollback     advance      counts       check        \
-        block        resets done  sweeps       turns        CHECK yes    differences  most live    room again   \
-        conflicts    items        items done   items got 7  items got 8  items got 9  items got 10 items got 13 \
-        behind a 13  empty blocks equal lists  longer lists 5 before 14  6 before 14  empty lines  ",
-        &n,
-    );
+pub fn print_all(rt: &impl Print, tally: &Tally, plain: &Plain) {
+    print_accepted(rt, tally);
+    print_refused(rt, tally);
+    print_kinds(rt, tally);
+    print_deeds(rt, tally, plain);
+    print_items(rt, tally);
+    print_blocks(rt, tally);
+    print_count(rt, "empty lines", tally.empty_lines);
 }

@@ -1,57 +1,73 @@
 // A call, and how much of each lent piece it is given.
-use copies::{Call, Lengths, Plain};
+use copies::{Call, Kind, Lengths, Plain};
 
-// How the memory is lent: 0, as long as needed; 1 to 6, the archive, the pool, the groups, the table, the owners or the history an element
-// short; 7, all that there is; 8, the same, on the blank state.
+#[derive(Clone, Copy, PartialEq, Eq, Debug)]
+pub enum Piece {
+    Archive,
+    Pool,
+    Groups,
+    Table,
+    Owners,
+    History,
+}
+
+// The pieces in the order of the calls' arguments.
+pub const PIECES: [Piece; 6] = [
+    Piece::Archive,
+    Piece::Pool,
+    Piece::Groups,
+    Piece::Table,
+    Piece::Owners,
+    Piece::History,
+];
+
+// How the memory is lent: as long as needed; one piece an element short; all that there is; the same, on the blank state.
+#[derive(Clone, Copy, PartialEq, Eq, Debug, Default)]
+pub enum Lent {
+    Needed,
+    Short(Piece),
+    #[default]
+    Whole,
+    Blank,
+}
+
 #[derive(Clone, Copy)]
 pub struct Asked {
     pub call: Call,
-    pub lent: u32,
+    pub lent: Lent,
 }
 
-pub const WHOLE: u32 = 7;
-
-pub const BLANK: u32 = 8;
-
-// A number as an argument.
-pub fn narrow(n: usize) -> u32 {
+// A number as an argument: what does not fit is cut off.
+fn narrow(n: usize) -> u32 {
     (n % 4294967296) as u32
 }
 
-pub fn call(kind: u32, a: usize, b: usize, c: usize, lent: u32) -> Asked {
-    let blank = lent == BLANK;
+pub fn call(kind: Kind, a: usize, b: usize, c: usize, lent: Lent) -> Asked {
     Asked {
         call: Call {
             kind,
             a: narrow(a),
             b: narrow(b),
             c: narrow(c),
-            blank,
+            blank: lent == Lent::Blank,
         },
         lent,
     }
 }
 
-// As much as a piece has to have, or an element less.
-fn part(need: usize, short: bool) -> usize {
-    if short {
-        if 0 < need {
-            return need - 1;
-        }
-    }
-    need
-}
-
-// The lengths needed, with one piece or none an element short.
-fn parts(need: Lengths, short: u32) -> Lengths {
-    Lengths {
-        archive: part(need.archive, short == 1),
-        pool: part(need.pool, short == 2),
-        groups: part(need.groups, short == 3),
-        table: part(need.table, short == 4),
-        owners: part(need.owners, short == 5),
-        history: part(need.history, short == 6),
-    }
+// The lengths with one piece an element short.
+fn shortened(need: Lengths, piece: Piece) -> Lengths {
+    let mut short = need;
+    let length = match piece {
+        Piece::Archive => &mut short.archive,
+        Piece::Pool => &mut short.pool,
+        Piece::Groups => &mut short.groups,
+        Piece::Table => &mut short.table,
+        Piece::Owners => &mut short.owners,
+        Piece::History => &mut short.history,
+    };
+    *length = length.saturating_sub(1);
+    short
 }
 
 // More than there is of any piece.
@@ -68,18 +84,20 @@ fn all() -> Lengths {
 }
 
 // What a call needs: RESET by the settings asked for, every other call by those of the store.
-fn need(call: Call, plain: Plain) -> Lengths {
-    if call.kind == copies::RESET {
-        return copies::least(call.a as usize, call.b as usize, call.c as usize);
+fn need(call: Call, plain: &Plain) -> Lengths {
+    if call.kind == Kind::Reset {
+        return Lengths::least(call.a as usize, call.b as usize, call.c as usize);
     }
-    copies::least(plain.lines, plain.frames, plain.pages)
+    Lengths::least(plain.lines, plain.frames, plain.pages)
 }
 
-// How much of each piece is lent, as far as there is so much.
-pub fn lengths(asked: Asked, plain: Plain) -> Lengths {
-    let call = asked.call;
-    if asked.lent >= WHOLE {
-        return all();
+impl Asked {
+    // How much of each piece is lent, as far as there is so much.
+    pub fn lengths(self, plain: &Plain) -> Lengths {
+        match self.lent {
+            Lent::Needed => need(self.call, plain),
+            Lent::Short(piece) => shortened(need(self.call, plain), piece),
+            Lent::Whole | Lent::Blank => all(),
+        }
     }
-    parts(need(call, plain), asked.lent)
 }

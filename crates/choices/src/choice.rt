@@ -1,11 +1,12 @@
 // The pseudo-random choice of calls: the bits of one number are cut into fields for each.
-use crate::asked;
-use crate::asked::{Asked, call};
-use std::num::{wrapping_add_usize, wrapping_sub_usize};
+ghost use Rattle.std.specs.Prelude.{◌≤◌};
+
+use crate::asked::{Asked, Lent, PIECES, call};
+use copies::{Kind, Plain};
 
 // A run: settings, how many calls are left, every how many COUNTS and CHECK are asked, the seed; and of the rows the place, that of the list
 // of items, and how the memory is lent to them.
-#[derive(Clone, Copy)]
+#[derive(Clone, Copy, Default)]
 pub struct Run {
     pub lines: usize,
     pub frames: usize,
@@ -15,7 +16,7 @@ pub struct Run {
     pub seed: usize,
     pub place: usize,
     pub list: usize,
-    pub lent: u32,
+    pub lent: Lent,
 }
 
 // The next seed.
@@ -26,22 +27,29 @@ pub fn next(seed: usize) -> usize {
 }
 
 // A remainder, or 0 by 0.
-fn rest(n: usize, by: usize) -> usize {
-    if by == 0 {
-        return 0;
-    }
-    n % by
+fn rest(n: usize, by: usize) -> usize
+    ensures { result ≤ n }
+{
+    n.checked_rem(by).unwrap_or(0)
 }
 
 // Of 64 calls, those below each number are marks, then rollbacks, then advances.
-#[derive(Clone, Copy)]
+#[derive(Drop)]
 struct Mix {
     marks: usize,
     backs: usize,
     advances: usize,
 }
 
-fn shares(marks: usize, backs: usize, advances: usize) -> Mix {
+// In turn a bit of all, many marks, many rollbacks, many advances, and mostly reads and writes.
+fn mix_in(phase: usize) -> Mix {
+    let (marks, backs, advances) = match phase {
+        0 => (10, 16, 20),
+        1 => (34, 36, 36),
+        2 => (20, 38, 38),
+        3 => (14, 16, 27),
+        _ => (6, 10, 11),
+    };
     Mix {
         marks,
         backs,
@@ -49,47 +57,32 @@ fn shares(marks: usize, backs: usize, advances: usize) -> Mix {
     }
 }
 
-// In turn a bit of all, many marks, many rollbacks, many advances, and mostly reads and writes.
-fn mix_in(phase: usize) -> Mix {
-    match phase {
-        0 => shares(10, 16, 20),
-        1 => shares(34, 36, 36),
-        2 => shares(20, 38, 38),
-        3 => shares(14, 16, 27),
-        _ => shares(6, 10, 11),
-    }
-}
-
 // A kind of call that opens or closes no frame.
-fn steady(n: usize) -> u32 {
+fn steady(n: usize) -> Kind {
     match n {
-        0..=207 => copies::WRITE,
-        208..=219 => copies::BLOCK,
-        220..=439 => copies::READ,
-        440..=491 => copies::LINE,
-        492..=499 => copies::COUNTS,
-        500..=510 => copies::CHECK,
-        _ => copies::RESET,
+        0..=207 => Kind::Write,
+        208..=219 => Kind::Block,
+        220..=439 => Kind::Read,
+        440..=491 => Kind::Line,
+        492..=499 => Kind::Counts,
+        500..=510 => Kind::Check,
+        _ => Kind::Reset,
     }
 }
 
 // The kind of the next call. Where the copies have no more room, a frame is collected instead of one opened.
-fn kind(seed: usize, phase: usize, full: bool) -> u32 {
-    let of = mix_in(phase);
+fn kind_of(seed: usize, phase: usize, full: bool) -> Kind {
+    let mix = mix_in(phase);
     let n = seed % 64;
-    if n < of.marks {
-        if full {
-            return copies::ADVANCE;
-        }
-        return copies::MARK;
+    if n < mix.marks {
+        if full { Kind::Advance } else { Kind::Mark }
+    } else if n < mix.backs {
+        Kind::Rollback
+    } else if n < mix.advances {
+        Kind::Advance
+    } else {
+        steady((seed >> 6) % 512)
     }
-    if n < of.backs {
-        return copies::ROLLBACK;
-    }
-    if n < of.advances {
-        return copies::ADVANCE;
-    }
-    steady((seed >> 6) % 512)
 }
 
 // A line: one of four of a set, any, or near to others.
@@ -107,8 +100,8 @@ fn line(seed: usize, left: usize, lines: usize) -> usize {
 fn line_number(seed: usize, left: usize, lines: usize) -> usize {
     match (seed >> 32) % 32 {
         0 => lines,
-        1 => wrapping_sub_usize(lines, 1),
-        2 => wrapping_add_usize(lines, 1),
+        1 => lines.wrapping_sub(1),
+        2 => lines.wrapping_add(1),
         3 => 4294967295,
         _ => line(seed, left, lines),
     }
@@ -133,25 +126,23 @@ fn address(seed: usize, line: usize, lines: usize, width: usize) -> usize {
     let end = lines % 65536 * 16;
     let from = line % 65536 * 16;
     match (seed >> 40) % 64 {
-        0 | 1 => wrapping_sub_usize(end, near),
+        0 | 1 => end.wrapping_sub(near),
         2 | 3 => end + near,
         4 => 4294967295 - near,
         5..=8 => from + offset,
-        _ => from + wrapping_sub_usize(offset, rest(offset, width)) % 16,
+        _ => from + (offset - rest(offset, width)) % 16,
     }
 }
 
 // A value: now and then at the limit of the width, above it, or the largest number.
 fn value(seed: usize, width: usize) -> usize {
-    let mut most = 4294967295;
-    if width == 1 {
-        most = 255;
-    }
-    if width == 2 {
-        most = 65535;
-    }
+    let most = match width {
+        1 => 255,
+        2 => 65535,
+        _ => 4294967295,
+    };
     match (seed >> 58) % 32 {
-        0 => wrapping_add_usize(most, 1),
+        0 => most + 1,
         1 | 2 => most,
         3 => 4294967295,
         4 => 0,
@@ -160,7 +151,7 @@ fn value(seed: usize, width: usize) -> usize {
 }
 
 // A READ or a WRITE.
-pub fn access(kind: u32, seed: usize, left: usize, lines: usize, lent: u32) -> Asked {
+pub fn access(kind: Kind, seed: usize, left: usize, lines: usize, lent: Lent) -> Asked {
     let line = line(seed, left, lines);
     let width = width((seed >> 46) % 64);
     let address = address(seed, line, lines, width);
@@ -182,31 +173,30 @@ fn items(seed: usize) -> usize {
 // How many answers it is lent: one too few, as many as items, or more.
 fn answers(n: usize, items: usize) -> usize {
     match n {
-        0 | 1 => {
-            if items == 0 {
-                return 0;
-            }
-            items - 1
-        }
+        0 | 1 => items.saturating_sub(1),
         2..=6 => items,
-        _ => wrapping_add_usize(items, n - 6),
+        _ => items.wrapping_add(n - 6),
+    }
+}
+
+// Memory with a piece short, or the blank state, for the first eight numbers.
+fn lacking(n: usize) -> Option<Lent> {
+    match n {
+        0..=5 => PIECES.get(n).copied().map(Lent::Short),
+        6 | 7 => Some(Lent::Blank),
+        _ => None,
     }
 }
 
 // How memory is lent to a block: more often short or on the blank state than to other calls, and seldom all, since what is lent is copied and
 // compared.
-fn lent_to_block(n: usize) -> u32 {
-    match n {
-        0 => 1,
-        1 => 2,
-        2 => 3,
-        3 => 4,
-        4 => 5,
-        5 => 6,
-        6 | 7 => asked::BLANK,
-        8..=11 => asked::WHOLE,
-        _ => 0,
-    }
+fn lent_to_block(n: usize) -> Lent {
+    lacking(n).unwrap_or(if n < 12 { Lent::Whole } else { Lent::Needed })
+}
+
+// How state and memory are lent: now and then with a piece short or on the blank state, a quarter of the calls with just what they need.
+fn lent_to_call(n: usize) -> Lent {
+    lacking(n).unwrap_or(if n < 72 { Lent::Needed } else { Lent::Whole })
 }
 
 // A block, with none, one or two numbers behind the last item.
@@ -214,7 +204,7 @@ fn block(seed: usize) -> Asked {
     let items = items(seed);
     let answers = answers((seed >> 28) % 16, items);
     let lent = lent_to_block((seed >> 50) % 64);
-    call(copies::BLOCK, items, answers, (seed >> 32) % 3, lent)
+    call(Kind::Block, items, answers, (seed >> 32) % 3, lent)
 }
 
 // How many frames: mostly one or two, now and then none, one more than the marked states, the largest number, all marked states (not while
@@ -224,12 +214,8 @@ fn count(seed: usize, phase: usize, live: usize) -> usize {
         0 => 0,
         1 => live,
         2 => 4294967295,
-        3 | 4 => {
-            if phase == 1 {
-                return 1;
-            }
-            wrapping_sub_usize(live, 1)
-        }
+        3 | 4 if phase == 1 => 1,
+        3 | 4 => live.wrapping_sub(1),
         5 | 6 => rest(seed >> 40, live),
         _ => (seed >> 40) % 2 + 1,
     }
@@ -237,78 +223,62 @@ fn count(seed: usize, phase: usize, live: usize) -> usize {
 
 // A RESET: now and then with the settings of the run or with others, else with such as are outside the limits or with too little lent. Few
 // are accepted, so that the tags run out in between.
-fn reset(seed: usize, run: Run, lent: u32) -> Asked {
+fn reset(seed: usize, run: Run, lent: Lent) -> Asked {
     let l = (seed >> 16) % 12 * 8 + 8;
     let f = (seed >> 24) % 5 * 16 + 16;
     let p = (seed >> 32) % 60 + 1;
-    match (seed >> 40) % 32 {
-        0 => call(0, l, f, p, lent),
-        1 => call(0, run.lines, run.frames, run.pages, lent),
-        2 => call(0, 4104, f, p, lent),
-        3 => call(0, l + p, f, p, lent),
-        4 => call(0, l, 0, p, lent),
-        5 => call(0, l, 272, p, lent),
-        6 => call(0, l, f + l % 16, p, lent),
-        7 => call(0, l, f, 0, lent),
-        8 => call(0, l, f, 4097, lent),
-        9 => call(0, 4294967295, f, p, lent),
-        10 => call(0, l, 4294967295, p, lent),
-        11 => call(0, l, f, 4294967295, lent),
-        12 => call(0, l, f, p, 1),
-        13 => call(0, l, f, p, 2),
-        14 => call(0, l, f, p, 3),
-        15 => call(0, l, f, p, 4),
-        16 => call(0, l, f, p, 5),
-        17 => call(0, l, f, p, 6),
-        _ => call(0, 0, f, p, lent),
-    }
-}
-
-// How state and memory are lent: now and then with a piece short or on the blank state, a quarter of the calls with just what they need.
-fn lent(n: usize) -> u32 {
-    match n {
-        0 => 1,
-        1 => 2,
-        2 => 3,
-        3 => 4,
-        4 => 5,
-        5 => 6,
-        6 | 7 => asked::BLANK,
-        8..=71 => 0,
-        _ => asked::WHOLE,
-    }
+    let case = (seed >> 40) % 32;
+    let (lines, frames, pages) = match case {
+        0 | 12..=17 => (l, f, p),
+        1 => (run.lines, run.frames, run.pages),
+        2 => (4104, f, p),
+        3 => (l + p, f, p),
+        4 => (l, 0, p),
+        5 => (l, 272, p),
+        6 => (l, f + l % 16, p),
+        7 => (l, f, 0),
+        8 => (l, f, 4097),
+        9 => (4294967295, f, p),
+        10 => (l, 4294967295, p),
+        11 => (l, f, 4294967295),
+        _ => (0, f, p),
+    };
+    let short = match case {
+        12..=17 => lacking(case - 12),
+        _ => None,
+    };
+    call(Kind::Reset, lines, frames, pages, short.unwrap_or(lent))
 }
 
 // Whether another copy of the memory has no room: 131,584 lines are lent for them.
-fn is_full(lines: usize, frames: usize, live: usize) -> bool {
-    if live == frames {
-        return false;
-    }
-    if lines == 0 {
-        return false;
-    }
-    wrapping_add_usize(live, 2) > 131584 / lines
+fn is_full(plain: &Plain) -> bool {
+    plain.live != plain.frames
+        && plain.lines != 0
+        && plain.live.wrapping_add(2) > 131584 / plain.lines
 }
 
-// The next call of a run on a store with these numbers. Where `every` is 3, COUNTS and CHECK are asked after every other call; they look
-// at each line of each frame, so that larger runs ask them every so many calls.
-pub fn chosen(run: Run, lines: usize, frames: usize, live: usize) -> Asked {
+// The next call of a run on a store with the plain one's numbers. Where `every` is 3, COUNTS and CHECK are asked after every other call; they
+// look at each line of each frame, so that larger runs ask them every so many calls.
+pub fn chosen(run: Run, plain: &Plain) -> Asked {
     let seed = run.seed;
-    let lent = lent((seed >> 50) % 256);
+    let lent = lent_to_call((seed >> 50) % 256);
     let turn = rest(run.left, run.every);
     if turn == 2 {
-        return call(copies::COUNTS, 0, 0, 0, 0);
+        return call(Kind::Counts, 0, 0, 0, Lent::Needed);
     }
     if turn == 1 {
-        return call(copies::CHECK, 0, 0, 0, 0);
+        return call(Kind::Check, 0, 0, 0, Lent::Needed);
     }
     let phase = run.left / (run.frames % 1024 * 2 + 200) % 5;
-    let kind = kind(seed, phase, is_full(lines, frames, live));
+    let kind = kind_of(seed, phase, is_full(plain));
     match kind {
-        copies::RESET => reset(seed, run, lent),
-        copies::WRITE | copies::READ => access(kind, seed, run.left, lines, lent),
-        copies::LINE => call(kind, line_number(seed, run.left, lines), 0, 0, lent),
-        copies::BLOCK => block(seed),
-        _ => call(kind, count(seed, phase, live), 0, 0, lent),
+        Kind::Reset => reset(seed, run, lent),
+        Kind::Write | Kind::Read => access(kind, seed, run.left, plain.lines, lent),
+        Kind::Line => {
+            let number = line_number(seed, run.left, plain.lines);
+            call(kind, number, 0, 0, lent)
+        }
+        Kind::Block => block(seed),
+        _ => call(kind, count(seed, phase, plain.live), 0, 0, lent),
     }
 }

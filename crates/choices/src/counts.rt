@@ -1,146 +1,127 @@
 // What was covered: calls by kind and answer, and differences.
-use copies::{Answer, Call};
-use std::num::wrapping_add_usize;
+use copies::{Answer, Call, Kind, Origin, Refusal, Said};
 
-// Answers by refusal, 0 for accepted; origins in the places 1 to 3 and 46; calls by kind from 15 on; the answers to the items of
-// accepted blocks from 34 on; what is named below; and by their refusals, 44 and 45, blocks that got 5 and 6 with too few answers.
-#[derive(Clone, Copy)]
+#[derive(Clone, Copy, Default)]
 pub struct Tally {
-    pub n: [usize; 48],
+    pub accepted: usize,
+    // Calls and items of accepted blocks that were refused, by the refusal's number.
+    pub refused: [usize; 15],
+    pub refused_items: [usize; 15],
+    // Calls by kind.
+    pub kinds: [usize; 10],
+    // Reads by origin; an empty line is one that no surviving write has touched.
+    pub from_cache: usize,
+    pub from_frame: usize,
+    pub from_archive: usize,
+    pub empty_lines: usize,
+    // Accepted RESETs; marks where the circle turned; rollbacks where the tags ran out; CHECKs that answered yes.
+    pub resets: usize,
+    pub turns: usize,
+    pub sweeps: usize,
+    pub yes: usize,
+    pub differences: usize,
+    // The items of accepted blocks, those accepted, and those accepted behind one that got 13.
+    pub items: usize,
+    pub items_done: usize,
+    pub behind: usize,
+    // Accepted blocks of no items, with as many answers as items, with more; and blocks that got 5 and 6 with too few answers.
+    pub empty_blocks: usize,
+    pub equal_lists: usize,
+    pub longer_lists: usize,
+    pub blank_first: usize,
+    pub short_first: usize,
 }
 
-const RESETS: usize = 25;
-
-const SWEEPS: usize = 26;
-
-const TURNS: usize = 27;
-
-const YES: usize = 28;
-
-const DIFFERENCES: usize = 29;
-
-const ITEMS: usize = 33;
-
-// Items accepted behind one that got 13.
-const BEHIND: usize = 40;
-
-// Accepted blocks of no items, with as many answers as items, with more.
-const EMPTY: usize = 41;
-
-const EQUAL: usize = 42;
-
-const LONGER: usize = 43;
-
-// Reads of a line that no surviving write has touched.
-const EMPTY_LINE: usize = 46;
-
-// Not printed.
-const OTHER: usize = 47;
-
-pub fn empty() -> Tally {
-    let n = [0usize; 48];
-    Tally { n }
+fn bump(n: &mut usize) {
+    *n = n.wrapping_add(1);
 }
 
-fn count(tally: Tally, at: usize) -> Tally {
-    let mut after = tally;
-    let n = after.n[at % 48];
-    after.n[at % 48] = wrapping_add_usize(n, 1);
-    after
-}
-
-fn only(yes: bool, place: usize) -> usize {
-    if yes {
-        return place;
-    }
-    OTHER
-}
-
-fn origin(n: usize) -> usize {
-    match n {
-        copies::CACHE => 1,
-        copies::ARCHIVE => 3,
-        copies::EMPTY => EMPTY_LINE,
-        _ => 2,
+// One more in a place of a list.
+fn bump_at(list: &mut [usize], at: usize) {
+    if let Some(n) = list.get_mut(at) {
+        bump(n);
     }
 }
 
-// Where an accepted call is counted; by the store's own registers, whether the circle turned or the tags ran out.
-pub fn deed(kind: u32, answer: Answer, turned: bool, swept: bool) -> usize {
-    match kind {
-        copies::RESET => RESETS,
-        copies::READ => origin(answer.second),
-        copies::MARK => only(turned, TURNS),
-        copies::ROLLBACK => only(swept, SWEEPS),
-        copies::CHECK => only(answer.first == 1, YES),
-        _ => OTHER,
-    }
-}
-
-// A call is counted.
-fn counted(tally: Tally, kind: u32, answer: Answer, deed: usize) -> Tally {
-    let by_refusal = count(tally, answer.refusal);
-    let by_kind = count(by_refusal, (kind % 16) as usize + 15);
-    if answer.refusal != 0 {
-        return by_kind;
-    }
-    count(by_kind, deed)
-}
-
-// A call is counted by the plain store's answer, and so is a difference of the two.
-pub fn judged(tally: Tally, kind: u32, deed: usize, store: Answer, plain: Answer) -> Tally {
-    if kind > copies::BLOCK {
-        return tally;
-    }
-    let after = counted(tally, kind, plain, deed);
-    if copies::is_same(store, plain) {
-        return after;
-    }
-    count(after, DIFFERENCES)
-}
-
-// Where an item is counted by its answer.
-fn place(answer: u32) -> usize {
-    match answer {
-        0 => 34,
-        7 => 35,
-        8 => 36,
-        9 => 37,
-        10 => 38,
-        13 => 39,
-        _ => OTHER,
-    }
-}
-
-// The items of an accepted block are counted by their answers.
-fn items(tally: Tally, answers: [u32; 256], items: usize) -> Tally {
-    let mut after = tally;
-    let mut behind = OTHER;
-    for i in 0..items {
-        if i < 256 {
-            let answer = answers[i];
-            after = count(count(after, ITEMS), place(answer));
-            if answer == 0 {
-                after = count(after, behind);
-            }
-            if answer == 13 {
-                behind = BEHIND;
-            }
+impl Tally {
+    fn read_from(&mut self, origin: Origin) {
+        match origin {
+            Origin::Cache => bump(&mut self.from_cache),
+            Origin::Frame(_) => bump(&mut self.from_frame),
+            Origin::Archive => bump(&mut self.from_archive),
+            Origin::Empty => bump(&mut self.empty_lines),
         }
     }
-    after
-}
 
-// A block is counted by its refusal, and how many items and answers it has.
-pub fn block(tally: Tally, refusal: usize, call: Call, answers: [u32; 256]) -> Tally {
-    if refusal != 0 {
-        return count(
-            tally,
-            only(call.b < call.a && refusal != 14, 39 + refusal % 8),
-        );
+    // An accepted call; by the store's own registers, whether the circle turned or the tags ran out.
+    fn accept(&mut self, kind: Kind, said: Said, turned: bool, swept: bool) {
+        bump(&mut self.accepted);
+        match said {
+            Said::Read { origin, .. } => self.read_from(origin),
+            Said::Check(true) => bump(&mut self.yes),
+            _ => {}
+        }
+        match kind {
+            Kind::Reset => bump(&mut self.resets),
+            Kind::Mark if turned => bump(&mut self.turns),
+            Kind::Rollback if swept => bump(&mut self.sweeps),
+            _ => {}
+        }
     }
-    let mut after = count(tally, only(call.a == 0, EMPTY));
-    after = count(after, only(call.b == call.a, EQUAL));
-    after = count(after, only(call.a < call.b, LONGER));
-    items(after, answers, call.a as usize)
+
+    // A call is counted by the plain store's answer, and so is a difference of the two.
+    pub fn judge(&mut self, kind: Kind, turned: bool, swept: bool, store: Answer, plain: Answer) {
+        bump_at(&mut self.kinds, kind as usize);
+        match plain.outcome {
+            Ok(()) => self.accept(kind, plain.said, turned, swept),
+            Err(refusal) => bump_at(&mut self.refused, refusal as usize),
+        }
+        if store != plain {
+            bump(&mut self.differences);
+        }
+    }
+
+    // The items of an accepted block are counted by their answers.
+    fn count_items(&mut self, answers: &[u32]) {
+        let mut full = false;
+        for answer in answers {
+            bump(&mut self.items);
+            if *answer == 0 {
+                bump(&mut self.items_done);
+                if full {
+                    bump(&mut self.behind);
+                }
+            } else {
+                bump_at(&mut self.refused_items, *answer as usize);
+            }
+            full = full || *answer == 13;
+        }
+    }
+
+    // A block is counted by its refusal, and how many items and answers it has.
+    pub fn block(&mut self, outcome: Result<(), Refusal>, call: Call, answers: &[u32; 256]) {
+        let too_few = call.b < call.a;
+        match outcome {
+            Ok(()) => {
+                self.accept_block(call);
+                let count = (call.a as usize).min(256);
+                self.count_items(&answers[..count]);
+            }
+            Err(Refusal::Blank) if too_few => bump(&mut self.blank_first),
+            Err(Refusal::Short) if too_few => bump(&mut self.short_first),
+            Err(_) => {}
+        }
+    }
+
+    fn accept_block(&mut self, call: Call) {
+        if call.a == 0 {
+            bump(&mut self.empty_blocks);
+        }
+        if call.a == call.b {
+            bump(&mut self.equal_lists);
+        }
+        if call.a < call.b {
+            bump(&mut self.longer_lists);
+        }
+    }
 }

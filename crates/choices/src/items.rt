@@ -1,39 +1,30 @@
 // The items of a block: those of rows, or pseudo-random ones.
 ghost use Rattle.std.specs.Prelude.{◌≡◌, ◌≤◌, length};
 
-use crate::asked::Asked;
+use crate::asked::Lent;
 use crate::choice::Run;
-use crate::{asked, choice, rows};
-use copies::Call;
-
-// A number, or the most that there is room for.
-fn at_most(n: usize, most: usize) -> usize
-    ensures { result ≤ most }
-{
-    if most < n {
-        return most;
-    }
-    n
-}
+use crate::rows::Word;
+use crate::{choice, rows};
+use copies::{Call, Kind};
 
 // How many numbers the list of a block has: three for each item, and those behind the last.
 pub fn numbers(call: Call) -> usize
     ensures { result ≤ 640 }
 {
-    at_most((call.a % 1024 * 3 + call.c % 1024) as usize, 640)
+    ((call.a % 1024 * 3 + call.c % 1024) as usize).min(640)
 }
 
 // How many answers it is lent.
 pub fn answers_lent(call: Call) -> usize
     ensures { result ≤ 256 }
 {
-    at_most(call.b as usize, 256)
+    (call.b as usize).min(256)
 }
 
-// A WRITE for an item, and where the next one comes from.
-#[derive(Clone, Copy)]
+// An item's width, address and value, and where the next one comes from.
+#[derive(Drop)]
 struct Item {
-    asked: Asked,
+    numbers: [u32; 3],
     next: usize,
 }
 
@@ -41,20 +32,22 @@ struct Item {
 fn item_from(script: &[u8], run: Run, lines: usize, from: usize) -> Item {
     if 0 < run.left {
         let seed = choice::next(from);
+        let write = choice::access(Kind::Write, seed, run.left, lines, Lent::Needed).call;
         return Item {
-            asked: choice::access(copies::WRITE, seed, run.left, lines, 0),
+            numbers: [write.a, write.b, write.c],
             next: seed,
         };
     }
     let row = rows::row_at(script, from);
-    if row.kind != rows::ITEM {
+    if row.word != Word::Item {
         return Item {
-            asked: asked::call(copies::WRITE, 0, 0, 0, 0),
+            numbers: [0; 3],
             next: from,
         };
     }
+    let write = row.call(Kind::Write, Lent::Needed).call;
     Item {
-        asked: rows::call_of(row, 0),
+        numbers: [write.a, write.b, write.c],
         next: row.next,
     }
 }
@@ -64,19 +57,13 @@ pub fn list(call: Call, script: &[u8], run: Run, lines: usize) -> [u32; 640]
     ensures { 640 ≡ length result }
 {
     let mut items = [0u32; 640];
-    let mut from = run.list;
-    if call.kind != copies::BLOCK {
+    if call.kind != Kind::Block {
         return items;
     }
-    if 0 < run.left {
-        from = run.seed;
-    }
-    for i in 0..213usize {
+    let mut from = if 0 < run.left { run.seed } else { run.list };
+    for place in items.chunks_exact_mut(3) {
         let item = item_from(script, run, lines, from);
-        let write = item.asked.call;
-        items[3 * i] = write.a;
-        items[3 * i + 1] = write.b;
-        items[3 * i + 2] = write.c;
+        place.copy_from_slice(&item.numbers);
         from = item.next;
     }
     items

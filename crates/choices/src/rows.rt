@@ -1,176 +1,149 @@
 // The rows of the input: a word and up to six numbers.
 use crate::asked;
-use crate::asked::{Asked, narrow};
+use crate::asked::{Asked, Lent, Piece};
 use crate::choice::Run;
-use std::num::wrapping_add_usize;
+use copies::Kind;
 
-// No calls: a title, the start of a run, which piece is short from here on, the start of a list of items, an item, the end.
-pub const TITLE: u32 = 10;
-
-pub const BEGIN: u32 = 11;
-
-pub const SHORT: u32 = 12;
-
-pub const ITEMS: u32 = 13;
-
-pub const ITEM: u32 = 14;
-
-pub const END: u32 = 15;
-
-// A call, and where the rows and the run are behind it.
-#[derive(Clone, Copy)]
-pub struct Turn {
-    pub asked: Asked,
-    pub run: Run,
+// What a row is by its word: a call, an item, or no call: a title, the start of a run, which piece is short from here on, the start of a list of
+// items, the end.
+#[derive(Clone, Copy, PartialEq, Eq, Debug)]
+pub enum Word {
+    Call(Kind),
+    Title,
+    Begin,
+    Short,
+    Items,
+    Item,
+    End,
 }
 
-// A row as far as it is read; `next` is behind it.
+// A row's numbers, behind those in its word; `next` is behind the row.
 #[derive(Clone, Copy)]
 pub struct Row {
-    pub kind: u32,
+    pub word: Word,
     pub fields: [usize; 8],
-    pub field: usize,
     pub next: usize,
 }
 
-fn get(script: &[u8], at: usize) -> u8 {
-    if at < script.len() {
-        return script[at];
-    }
-    0
+// What comes next: a call, nothing but what the rows behind it go by, or the end.
+#[derive(Clone, Copy)]
+pub enum Turn {
+    Call(Asked),
+    Note,
+    End,
 }
 
-// A byte of a word's text: what ends a row is a space behind its word.
-fn letter_at(script: &[u8], at: usize) -> u8 {
-    let letter = get(script, at);
-    if letter == b'\n' {
-        return b' ';
-    }
-    letter
+// The bytes from a place to the next space or line feed.
+fn word_at(script: &[u8], at: usize) -> Option<&[u8]> {
+    let rest = script.get(at..)?;
+    let end = rest
+        .iter()
+        .position(|byte| *byte == b' ' || *byte == b'\n')?;
+    Some(&rest[..end])
 }
 
-// Whether the whole word at a place is the one that starts at another place of the words, with a space behind it.
-fn is_word(script: &[u8], at: usize, words: &[u8], from: usize) -> bool {
-    for i in 0..8usize {
-        let letter = letter_at(script, wrapping_add_usize(at, i));
-        if letter != get(words, wrapping_add_usize(from, i)) {
-            return false;
-        }
-        if letter == b' ' {
-            return true;
-        }
+// What the row at a place is; the end where its word is none of these.
+fn kind_at(script: &[u8], at: usize) -> Word {
+    match word_at(script, at) {
+        Some(b"reset") => Word::Call(Kind::Reset),
+        Some(b"write") => Word::Call(Kind::Write),
+        Some(b"read") => Word::Call(Kind::Read),
+        Some(b"line") => Word::Call(Kind::Line),
+        Some(b"mark") => Word::Call(Kind::Mark),
+        Some(b"back") => Word::Call(Kind::Rollback),
+        Some(b"advance") => Word::Call(Kind::Advance),
+        Some(b"counts") => Word::Call(Kind::Counts),
+        Some(b"check") => Word::Call(Kind::Check),
+        Some(b"block") => Word::Call(Kind::Block),
+        Some(b"title") => Word::Title,
+        Some(b"begin") => Word::Begin,
+        Some(b"short") => Word::Short,
+        Some(b"items") => Word::Items,
+        Some(b"item") => Word::Item,
+        _ => Word::End,
     }
-    false
-}
-
-// Which of the words, of 8 bytes each, stands at a place; how many they are if none does.
-fn word_at(script: &[u8], at: usize, words: &[u8]) -> u32 {
-    let count = words.len() / 8;
-    for i in 0..count {
-        if is_word(script, at, words, i * 8) {
-            return narrow(i);
-        }
-    }
-    narrow(count)
-}
-
-// The kind of a row by its word, in the order of the kinds; the end where there is none.
-fn kind_at(script: &[u8], at: usize) -> u32 {
-    word_at(
-        script,
-        at,
-        b"reset   write   read    line    mark    back    advance counts  check   block   title   begin   short   items   item    ",
-    )
 }
 
 // How the memory is lent by the row at a place, behind whose word the piece is named that is short.
-pub fn lent_at(script: &[u8], at: usize) -> u32 {
-    word_at(
-        script,
-        wrapping_add_usize(at, 6),
-        b"nothing archive pool    groups  table   owners  history ",
-    )
-}
-
-fn digit(letter: u8) -> usize {
-    (letter % 16) as usize
-}
-
-// A number with one byte more.
-fn grown(n: usize, letter: u8) -> usize {
-    if letter < b'0' || b'9' < letter {
-        return n;
+fn lent_at(script: &[u8], at: usize) -> Lent {
+    match word_at(script, at.wrapping_add(6)) {
+        Some(b"nothing") => Lent::Needed,
+        Some(b"archive") => Lent::Short(Piece::Archive),
+        Some(b"pool") => Lent::Short(Piece::Pool),
+        Some(b"groups") => Lent::Short(Piece::Groups),
+        Some(b"table") => Lent::Short(Piece::Table),
+        Some(b"owners") => Lent::Short(Piece::Owners),
+        Some(b"history") => Lent::Short(Piece::History),
+        _ => Lent::Whole,
     }
-    if n < 1000000000 {
-        return wrapping_add_usize(n * 10, digit(letter));
-    }
-    0
 }
 
-// The row with one byte more: a space starts the next number.
-fn with_byte(row: Row, letter: u8) -> Row {
-    let mut after = row;
-    after.next = wrapping_add_usize(row.next, 1);
-    if letter == b' ' {
-        after.field = wrapping_add_usize(row.field, 1);
+// A number with one byte more; one that grows too large is 0.
+fn grown(n: usize, letter: &u8) -> usize {
+    match *letter {
+        digit @ b'0'..=b'9' if n < 1000000000 => n * 10 + (digit - b'0') as usize,
+        b'0'..=b'9' => 0,
+        _ => n,
     }
-    let n = after.fields[row.field % 8];
-    after.fields[row.field % 8] = grown(n, letter);
-    after
 }
 
-// The row that starts at a place.
+// The row that starts at a place: each space starts the next of its numbers.
 pub fn row_at(script: &[u8], at: usize) -> Row {
-    let fields = [0usize; 8];
-    let mut row = Row {
-        kind: kind_at(script, at),
+    let rest = script.get(at..).unwrap_or(&[]);
+    let line = rest
+        .split_inclusive(|byte| *byte == b'\n')
+        .next()
+        .unwrap_or(&[]);
+    let mut fields = [0usize; 8];
+    for (i, text) in line.split(|byte| *byte == b' ').enumerate() {
+        fields[i % 8] = text.iter().fold(fields[i % 8], grown);
+    }
+    Row {
+        word: kind_at(script, at),
         fields,
-        field: 0,
-        next: at,
-    };
-    for i in at..script.len() {
-        let letter = get(script, i);
-        row = with_byte(row, letter);
-        if letter == b'\n' {
-            return row;
+        next: at.wrapping_add(line.len()),
+    }
+}
+
+impl Row {
+    // A call by the row's numbers, with the memory lent so.
+    pub fn call(&self, kind: Kind, lent: Lent) -> Asked {
+        let [_, a, b, c, ..] = self.fields;
+        asked::call(kind, a, b, c, lent)
+    }
+
+    // The start of a run, with its RESET.
+    fn begin(&self, run: &mut Run) -> Asked {
+        let [_, lines, frames, pages, left, every, seed, _] = self.fields;
+        *run = Run {
+            lines,
+            frames,
+            pages,
+            left,
+            every,
+            seed,
+            ..*run
+        };
+        asked::call(Kind::Reset, lines, frames, pages, run.lent)
+    }
+
+    // A row that is no start of a run is a call or an item, or says which piece is short or where the items are from here on.
+    pub fn turn(&self, script: &[u8], run: &mut Run) -> Turn {
+        let at = run.place;
+        run.place = self.next;
+        match self.word {
+            Word::Call(kind) => Turn::Call(self.call(kind, run.lent)),
+            Word::Begin => Turn::Call(self.begin(run)),
+            Word::Short => {
+                run.lent = lent_at(script, at);
+                Turn::Note
+            }
+            Word::Items => {
+                run.list = self.next;
+                Turn::Note
+            }
+            Word::Title | Word::Item => Turn::Note,
+            Word::End => Turn::End,
         }
     }
-    row
-}
-
-// The call of a row, with the memory lent so.
-pub fn call_of(row: Row, lent: u32) -> Asked {
-    let fields = row.fields;
-    asked::call(row.kind, fields[1], fields[2], fields[3], lent)
-}
-
-// The start of a run, with its RESET.
-fn begun(row: Row, run: Run) -> Turn {
-    let fields = row.fields;
-    let mut after = run;
-    after.lines = fields[1];
-    after.frames = fields[2];
-    after.pages = fields[3];
-    after.left = fields[4];
-    after.every = fields[5];
-    after.seed = fields[6];
-    let asked = asked::call(copies::RESET, fields[1], fields[2], fields[3], run.lent);
-    Turn { asked, run: after }
-}
-
-// A row that is no start of a run is a call or an item, or says which piece is short or where the items are from here on.
-pub fn turn_of(script: &[u8], row: Row, run: Run) -> Turn {
-    let mut after = run;
-    after.place = row.next;
-    if row.kind == SHORT {
-        after.lent = lent_at(script, run.place);
-    }
-    if row.kind == ITEMS {
-        after.list = row.next;
-    }
-    if row.kind == BEGIN {
-        return begun(row, after);
-    }
-    let asked = call_of(row, run.lent);
-    Turn { asked, run: after }
 }

@@ -1,62 +1,75 @@
 // A block of writes: its items in order, each a WRITE of its own. Three numbers of the list are an item: width, address, value.
-use crate::{Answer, Call, Lengths, NONE, Plain, Reply, WRITE};
-use std::num::wrapping_add_usize;
+use crate::pieces::UNANSWERED;
+use crate::{Call, Kind, Lengths, Plain, Refusal};
+use std::fmt;
 
-// The WRITE of one of so many items; no call behind them.
-pub fn item_at(items: &[u32], count: usize, i: usize) -> Call {
-    let mut call = Call {
-        kind: NONE,
-        a: 0,
-        b: 0,
-        c: 0,
-        blank: false,
-    };
-    if count <= i {
-        return call;
-    }
-    if i < items.len() / 3 {
-        call.kind = WRITE;
-        call.a = items[3 * i];
-        call.b = items[3 * i + 1];
-        call.c = items[3 * i + 2];
-    }
-    call
+// How many items of a block were accepted; how far its answers are not as single writes have them, and the bits in which state and memory
+// are not.
+#[derive(Clone, Copy, PartialEq, Eq, Debug, Default)]
+pub struct Tried {
+    pub accepted: usize,
+    pub others: usize,
+    pub apart: u32,
 }
 
-// What a block answers with one item more: how many were accepted; and a weight is added where the answer in its place is another one.
-pub fn answered(
-    before: Answer,
-    refusal: usize,
-    answers: [u32; 256],
-    i: usize,
-    weight: usize,
-) -> Answer {
-    let mut after = before;
-    if refusal == 0 {
-        after.first = wrapping_add_usize(before.first, 1);
+impl Tried {
+    // One item more: a weight is added where the answer in its place is another one.
+    pub fn count(&mut self, single: u32, answer: u32, weight: usize) {
+        if single == 0 {
+            self.accepted = self.accepted.wrapping_add(1);
+        }
+        if single != answer {
+            self.others = self.others.wrapping_add(weight);
+        }
     }
-    if refusal != answers[i % 256] as usize {
-        after.second = wrapping_add_usize(before.second, weight);
+}
+
+impl fmt::Display for Tried {
+    fn fmt<W: fmt::Write>(&self, f: &mut fmt::Formatter<W>) -> fmt::Result {
+        write!(f, "{} {} {}", self.accepted, self.others, self.apart)
     }
-    after
+}
+
+// An answer as the lent list of a block holds it: the refusal's number, or 0.
+pub fn number_of(outcome: Result<(), Refusal>) -> u32 {
+    match outcome {
+        Ok(()) => 0,
+        Err(refusal) => refusal as u32,
+    }
+}
+
+// The WRITE of an item, if there is one at that place.
+fn item_at(items: &[u32], i: usize) -> Option<Call> {
+    if items.len() / 3 <= i {
+        return None;
+    }
+    Some(Call {
+        kind: Kind::Write,
+        a: items[3 * i],
+        b: items[3 * i + 1],
+        c: items[3 * i + 2],
+        blank: false,
+    })
 }
 
 // So many items, each tried, also behind one that is refused; behind them the answers are left, and so are all where there are
 // none. An answer that is another one counts 1,000: at most 256 that differ from those to single writes count 1 each, and are never as much.
-pub fn tried(
+pub fn try_all(
     memory: &mut [u32],
-    before: Reply,
+    plain: &mut Plain,
     items: &[u32],
-    answers: [u32; 256],
+    answers: &[u32; 256],
     count: usize,
     lent: Lengths,
-) -> Reply {
-    let mut plain = before.plain;
-    let mut answer = before.answer;
-    for i in 0..256usize {
-        let reply = crate::single(memory, plain, item_at(items, count, i), lent);
-        plain = reply.plain;
-        answer = answered(answer, reply.answer.refusal, answers, i, 1000);
+) -> Tried {
+    let mut tried = Tried::default();
+    for (i, answer) in answers.iter().enumerate() {
+        let item = if i < count { item_at(items, i) } else { None };
+        let single = match item {
+            Some(call) => number_of(plain.single(memory, call, lent).outcome),
+            None => UNANSWERED,
+        };
+        tried.count(single, *answer, 1000);
     }
-    Reply { plain, answer }
+    tried
 }

@@ -1,6 +1,5 @@
 // How long the lent pieces are, and how long they have to be: the papers' sizes, in elements.
 use crate::memory::times;
-use std::num::wrapping_add_usize;
 
 // The elements of each piece: bytes of the archive and the pool, numbers of the others.
 #[derive(Clone, Copy)]
@@ -13,26 +12,27 @@ pub struct Lengths {
     pub history: usize,
 }
 
-// What a store of these settings needs: 16 bytes a line, 128 a page, a group for each line and 16 frames, a place in the table for each frame
-// and 8 lines, an owner for each page and a flag for each line behind them, and a bound for each of 256 tags.
-pub fn least(lines: usize, frames: usize, pages: usize) -> Lengths {
-    Lengths {
-        archive: times(16, lines),
-        pool: times(128, pages),
-        groups: times(frames / 16, lines),
-        table: times(frames, lines / 8),
-        owners: wrapping_add_usize(pages, lines),
-        history: 256,
+impl Lengths {
+    // What a store of these settings needs: 16 bytes a line, 128 a page, a group for each line and 16 frames, a place in the table for each frame
+    // and 8 lines, an owner for each page and a flag for each line behind them, and a bound for each of 256 tags.
+    pub fn least(lines: usize, frames: usize, pages: usize) -> Lengths {
+        Lengths {
+            archive: times(16, lines),
+            pool: times(128, pages),
+            groups: times(frames / 16, lines),
+            table: times(frames, lines / 8),
+            owners: pages.wrapping_add(lines),
+            history: 256,
+        }
     }
-}
 
-// Whether a piece is shorter than needed.
-pub fn is_short(lent: Lengths, need: Lengths) -> bool {
-    if lent.archive < need.archive || lent.pool < need.pool {
-        return true;
+    // Whether a piece is shorter than needed.
+    pub fn is_short(self, need: Lengths) -> bool {
+        self.archive < need.archive
+            || self.pool < need.pool
+            || self.groups < need.groups
+            || self.table < need.table
+            || self.owners < need.owners
+            || self.history < need.history
     }
-    if lent.groups < need.groups || lent.table < need.table {
-        return true;
-    }
-    lent.owners < need.owners || lent.history < need.history
 }

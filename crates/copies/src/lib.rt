@@ -1,6 +1,7 @@
 // A second plain store with whole copies: after every mark the whole memory is copied. It is fed the calls and the lent lengths alone.
 #![tactic(auto)]
 
+mod answers;
 mod items;
 mod lengths;
 mod memory;
@@ -8,47 +9,33 @@ pub mod pieces;
 mod recent;
 mod refusals;
 
-pub use items::{answered, item_at};
-pub use lengths::{Lengths, least};
-pub use memory::room;
+pub use answers::{Answer, Origin, Said};
+pub use items::{Tried, number_of};
+pub use lengths::Lengths;
+pub use memory::ROOM;
 use memory::{copy, size};
 pub use recent::Cache;
-use std::num::{wrapping_add_usize, wrapping_sub_usize};
+pub use refusals::Refusal;
 
-pub const RESET: u32 = 0;
+// What a store is asked for.
+#[derive(Clone, Copy, PartialEq, Eq, Debug)]
+pub enum Kind {
+    Reset,
+    Write,
+    Read,
+    Line,
+    Mark,
+    Rollback,
+    Advance,
+    Counts,
+    Check,
+    Block,
+}
 
-pub const WRITE: u32 = 1;
-
-pub const READ: u32 = 2;
-
-pub const LINE: u32 = 3;
-
-pub const MARK: u32 = 4;
-
-pub const ROLLBACK: u32 = 5;
-
-pub const ADVANCE: u32 = 6;
-
-pub const COUNTS: u32 = 7;
-
-pub const CHECK: u32 = 8;
-
-pub const BLOCK: u32 = 9;
-
-// No call, as is every kind above BLOCK.
-pub const NONE: u32 = 10;
-
-// Origins that are no count of marks back.
-pub const CACHE: usize = 1000;
-
-pub const ARCHIVE: usize = 1001;
-
-pub const EMPTY: usize = 1002;
-
-// A call, on the store's state or on the blank one.
+// A call, on the store's state or on the blank one. Each kind has three numbers, as in the rows and in what is printed of a difference.
 #[derive(Clone, Copy)]
 pub struct Call {
-    pub kind: u32,
+    pub kind: Kind,
     // RESET: L, F, P; WRITE: width, address, value; READ: width, address; LINE: number; ROLLBACK, ADVANCE: k; BLOCK: how many items and answers,
     // and how many numbers lie behind the last item
     pub a: u32,
@@ -57,26 +44,9 @@ pub struct Call {
     pub blank: bool,
 }
 
-// What a call answers. READ: value and origin; LINE: bytes as two numbers and how many they are; COUNTS: live frames and pages; CHECK: 1;
-// BLOCK: how many items were accepted.
-#[derive(Clone, Copy)]
-pub struct Answer {
-    pub refusal: usize,
-    pub first: usize,
-    pub second: usize,
-    pub third: usize,
-}
-
-pub fn is_same(a: Answer, b: Answer) -> bool {
-    if a.refusal != b.refusal || a.first != b.first {
-        return false;
-    }
-    a.second == b.second && a.third == b.third
-}
-
 // The settings, how many frames are live, and the cache; and what was seen: whether 13 was given since the last page was given out, how
-// often a page was given out after that, and the most live frames.
-#[derive(Clone, Copy)]
+// often a page was given out after that, and the most live frames. By default there is no store: L is 0.
+#[derive(Clone, Copy, Default)]
 pub struct Plain {
     pub lines: usize,
     pub frames: usize,
@@ -88,227 +58,143 @@ pub struct Plain {
     pub cache: Cache,
 }
 
-// The plain store after a call, and its answer.
-#[derive(Clone, Copy)]
-pub struct Reply {
-    pub plain: Plain,
-    pub answer: Answer,
-}
-
-// No store: L is 0.
-pub fn blank() -> Plain {
-    Plain {
-        lines: 0,
-        frames: 0,
-        pages: 0,
-        live: 0,
-        full: false,
-        rooms: 0,
-        highest: 0,
-        cache: recent::empty(0),
+impl Plain {
+    // An accepted RESET.
+    fn reset(&mut self, memory: &mut [u32], call: Call) {
+        let lines = call.a as usize;
+        memory::clear(memory, size(lines).wrapping_add(size(lines)));
+        self.lines = lines;
+        self.frames = call.b as usize;
+        self.pages = call.c as usize;
+        self.live = 1;
+        self.full = false;
+        self.cache.empty();
     }
-}
 
-// An accepted RESET.
-fn reset(memory: &mut [u32], plain: Plain, call: Call) -> Plain {
-    let lines = call.a as usize;
-    memory::clear(memory, wrapping_add_usize(size(lines), size(lines)));
-    let cache = plain.cache;
-    Plain {
-        lines,
-        frames: call.b as usize,
-        pages: call.c as usize,
-        live: 1,
-        full: false,
-        rooms: plain.rooms,
-        highest: plain.highest,
-        cache: recent::empty(cache.conflicts),
-    }
-}
-
-// An accepted WRITE.
-fn write(memory: &mut [u32], plain: Plain, call: Call) -> Plain {
-    let address = call.b as usize;
-    let cache = plain.cache;
-    let mut after = plain;
-    let taking = !memory::is_needed(memory, plain.lines, plain.live, address / 16);
-    if taking {
-        if plain.full {
-            after.rooms = wrapping_add_usize(plain.rooms, 1);
+    // An accepted WRITE.
+    fn write(&mut self, memory: &mut [u32], call: Call) {
+        let address = call.b as usize;
+        if !memory::is_needed(memory, self.lines, self.live, address / 16) {
+            if self.full {
+                self.rooms = self.rooms.wrapping_add(1);
+            }
+            self.full = false;
         }
-        after.full = false;
+        memory::write(
+            memory,
+            self.lines,
+            self.live,
+            call.a as usize,
+            address,
+            call.c as usize,
+        );
+        self.cache.used(address / 16);
     }
-    memory::write(
-        memory,
-        plain.lines,
-        plain.live,
-        call.a as usize,
-        address,
-        call.c as usize,
-    );
-    after.cache = recent::used(cache, address / 16);
-    after
-}
 
-// An accepted MARK: what CMF leaves is copied, and no line is written in the copy.
-fn mark(memory: &mut [u32], plain: Plain) -> Plain {
-    let all = size(plain.lines);
-    let here = memory::times(plain.live, all);
-    copy(memory, wrapping_add_usize(here, all), here, all, true);
-    let mut after = plain;
-    after.live = wrapping_add_usize(plain.live, 1);
-    if plain.highest < after.live {
-        after.highest = after.live;
+    // An accepted MARK: what CMF leaves is copied, and no line is written in the copy.
+    fn mark(&mut self, memory: &mut [u32]) {
+        let all = size(self.lines);
+        let here = memory::times(self.live, all);
+        copy(memory, here.wrapping_add(all), here, all, true);
+        self.live = self.live.wrapping_add(1);
+        self.highest = self.highest.max(self.live);
     }
-    after
-}
 
-// An accepted ADVANCE: what the k-th oldest frame left becomes the base, with every line written that the base or a collected frame has, and the
-// rest moves down.
-fn advance(memory: &mut [u32], plain: Plain, k: usize) -> Plain {
-    let all = size(plain.lines);
-    memory::gather(memory, plain.lines, k);
-    let left = wrapping_sub_usize(plain.live, k);
-    let count = memory::times(wrapping_add_usize(left, 1), all);
-    copy(memory, 0, memory::times(k, all), count, false);
-    let mut after = plain;
-    after.live = left;
-    after
-}
-
-// An accepted ROLLBACK: the k newest frames are dropped.
-fn rollback(memory: &[u32], plain: Plain, k: usize) -> Plain {
-    let cache = plain.cache;
-    let mut after = plain;
-    after.cache = recent::forget_all(memory, plain.lines, plain.live, cache, k);
-    after.live = wrapping_sub_usize(plain.live, k);
-    after
-}
-
-// An accepted READ uses the cache.
-fn look(plain: Plain, address: usize) -> Plain {
-    let cache = plain.cache;
-    let mut after = plain;
-    after.cache = recent::used(cache, address / 16);
-    after
-}
-
-// What an accepted call leaves.
-fn change(memory: &mut [u32], plain: Plain, call: Call) -> Plain {
-    let kind = call.kind;
-    match kind {
-        RESET => reset(memory, plain, call),
-        WRITE => write(memory, plain, call),
-        READ => look(plain, call.b as usize),
-        MARK => mark(memory, plain),
-        ROLLBACK => rollback(memory, plain, call.a as usize),
-        ADVANCE => advance(memory, plain, call.a as usize),
-        _ => plain,
+    // An accepted ADVANCE: what the k-th oldest frame left becomes the base, with every line written that the base or a collected frame has, and
+    // the rest moves down.
+    fn advance(&mut self, memory: &mut [u32], k: usize) {
+        let all = size(self.lines);
+        memory::gather(memory, self.lines, k);
+        self.live = self.live.wrapping_sub(k);
+        let count = memory::times(self.live.wrapping_add(1), all);
+        copy(memory, 0, memory::times(k, all), count, false);
     }
-}
 
-// The value and the origin of an accepted READ.
-fn reading(memory: &[u32], plain: Plain, width: usize, address: usize) -> Answer {
-    let cache = plain.cache;
-    let mut origin = memory::newest(memory, plain.lines, plain.live, address / 16);
-    if origin != EMPTY && recent::entry_of(cache, address / 16) < 32 {
-        origin = CACHE;
+    // An accepted ROLLBACK: the k newest frames are dropped.
+    fn rollback(&mut self, memory: &[u32], k: usize) {
+        self.cache.forget(memory, self.lines, self.live, k);
+        self.live = self.live.wrapping_sub(k);
     }
-    Answer {
-        refusal: 0,
-        first: memory::value(memory, plain.lines, plain.live, width, address),
-        second: origin,
-        third: 0,
-    }
-}
 
-// The bytes of an accepted LINE.
-fn line(memory: &[u32], plain: Plain, line: usize) -> Answer {
-    let at = memory::place(plain.lines, plain.live, line);
-    Answer {
-        refusal: 0,
-        first: memory::pair(memory, at, 0),
-        second: memory::pair(memory, at, 2),
-        third: 16,
-    }
-}
-
-// What an accepted call answers.
-fn tell(memory: &[u32], plain: Plain, call: Call) -> Answer {
-    let mut answer = Answer {
-        refusal: 0,
-        first: 0,
-        second: 0,
-        third: 0,
-    };
-    let kind = call.kind;
-    match kind {
-        READ => reading(memory, plain, call.a as usize, call.b as usize),
-        LINE => line(memory, plain, call.a as usize),
-        COUNTS => {
-            answer.first = plain.live;
-            answer.second = memory::needed(memory, plain.lines, plain.live);
-            answer
+    // What an accepted call changes.
+    fn change(&mut self, memory: &mut [u32], call: Call) {
+        match call.kind {
+            Kind::Reset => self.reset(memory, call),
+            Kind::Write => self.write(memory, call),
+            Kind::Read => self.cache.used(call.b as usize / 16),
+            Kind::Mark => self.mark(memory),
+            Kind::Rollback => self.rollback(memory, call.a as usize),
+            Kind::Advance => self.advance(memory, call.a as usize),
+            Kind::Line | Kind::Counts | Kind::Check | Kind::Block => {}
         }
-        CHECK => {
-            answer.first = 1;
-            answer
+    }
+
+    // The value and the origin of an accepted READ.
+    fn reading(&self, memory: &[u32], width: usize, address: usize) -> Said {
+        let line = address / 16;
+        let newest = memory::newest(memory, self.lines, self.live, line);
+        let cached = newest != Origin::Empty && self.cache.entry_of(line).is_some();
+        Said::Read {
+            value: memory::value(memory, self.lines, self.live, width, address),
+            origin: if cached { Origin::Cache } else { newest },
         }
-        _ => answer,
     }
-}
 
-// A refused call changes nothing; READ names the archive.
-fn refused(plain: Plain, kind: u32, refusal: usize) -> Reply {
-    let mut after = plain;
-    let mut second = 0;
-    if refusal == 13 {
-        after.full = true;
+    // The bytes of an accepted LINE.
+    fn line(&self, memory: &[u32], line: usize) -> Said {
+        let at = memory::place(self.lines, self.live, line);
+        Said::Line {
+            first: memory::pair(memory, at, 0),
+            second: memory::pair(memory, at, 2),
+            length: 16,
+        }
     }
-    if kind == READ {
-        second = ARCHIVE;
-    }
-    Reply {
-        plain: after,
-        answer: Answer {
-            refusal,
-            first: 0,
-            second,
-            third: 0,
-        },
-    }
-}
 
-// A call but BLOCK on the plain store, where pieces of these lengths are lent.
-fn single(memory: &mut [u32], plain: Plain, call: Call, lent: Lengths) -> Reply {
-    let refusal = refusals::refusal(memory, plain, call, lent);
-    if refusal != 0 {
-        return refused(plain, call.kind, refusal);
+    // What an accepted call answers.
+    fn told(&self, memory: &[u32], call: Call) -> Said {
+        match call.kind {
+            Kind::Read => self.reading(memory, call.a as usize, call.b as usize),
+            Kind::Line => self.line(memory, call.a as usize),
+            Kind::Counts => Said::Counts {
+                live: self.live,
+                pages: memory::needed(memory, self.lines, self.live),
+            },
+            Kind::Check => Said::Check(true),
+            kind => Said::refused(kind),
+        }
     }
-    let answer = tell(memory, plain, call);
-    let after = change(memory, plain, call);
-    Reply {
-        plain: after,
-        answer,
-    }
-}
 
-// A call on the plain store, beside the answers that the store gave to the items of a block. Refused as a whole it has none that are tried.
-pub fn step(
-    memory: &mut [u32],
-    plain: Plain,
-    call: Call,
-    items: &[u32],
-    answers: [u32; 256],
-    lent: Lengths,
-) -> Reply {
-    let reply = single(memory, plain, call, lent);
-    if call.kind != BLOCK {
-        return reply;
+    // A call, where pieces of these lengths are lent; of a block no item is tried.
+    fn single(&mut self, memory: &mut [u32], call: Call, lent: Lengths) -> Answer {
+        let outcome = refusals::admit(memory, self, call, lent);
+        if outcome.is_err() {
+            self.full = self.full || outcome == Err(Refusal::Pool);
+            let said = Said::refused(call.kind);
+            return Answer { outcome, said };
+        }
+        let said = self.told(memory, call);
+        self.change(memory, call);
+        Answer { outcome, said }
     }
-    let mut count = 0;
-    if reply.answer.refusal == 0 {
-        count = call.a as usize;
+
+    // A call, beside the answers that the store gave to the items of a block. Refused as a whole it has none that are tried.
+    pub fn step(
+        &mut self,
+        memory: &mut [u32],
+        call: Call,
+        items: &[u32],
+        answers: &[u32; 256],
+        lent: Lengths,
+    ) -> Answer {
+        let mut answer = self.single(memory, call, lent);
+        if call.kind == Kind::Block {
+            let count = match answer.outcome {
+                Ok(()) => call.a as usize,
+                Err(_) => 0,
+            };
+            let tried = items::try_all(memory, self, items, answers, count, lent);
+            answer.said = Said::Block(tried);
+        }
+        answer
     }
-    items::tried(memory, reply, items, answers, count, lent)
 }

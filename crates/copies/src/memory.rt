@@ -1,44 +1,25 @@
 // The copies in one lent list of words. A block of 8 lines takes 33: 4 for each line, the most significant byte first, and one with a bit for
 // each line that the frame wrote, in the base for each line that was ever written there. A copy is the blocks in order; the base comes first,
 // then what each live frame leaves, the oldest first.
-ghost use Rattle.std.specs.Prelude.{◌≡◌, length};
-
-use crate::{ARCHIVE, EMPTY};
-use std::num::{wrapping_add_usize, wrapping_sub_usize};
+use crate::Origin;
 
 // Room for the copies: 256 live frames up to L = 512, 31 at L = 4,096.
-pub fn room() -> [u32; 542784]
-    ensures { 542784 ≡ length result }
-{
-    [0; 542784]
-}
+pub const ROOM: usize = 542784;
 
 // A product, or 0 where a factor is out of use here.
 pub fn times(a: usize, b: usize) -> usize {
-    if a < 1048576 {
-        if b < 1048576 {
-            return a * b;
-        }
-    }
-    0
-}
-
-fn wide(n: u32) -> usize {
-    n as usize
+    if a < 1048576 && b < 1048576 { a * b } else { 0 }
 }
 
 // A word; outside the list there are noughts.
 fn get(memory: &[u32], at: usize) -> usize {
-    if at < memory.len() {
-        return wide(memory[at]);
-    }
-    0
+    memory.get(at).map_or(0, |word| *word as usize)
 }
 
 // Puts a word; outside the list nothing is put.
 fn put(memory: &mut [u32], at: usize, n: usize) {
-    if at < memory.len() {
-        memory[at] = (n % 4294967296) as u32;
+    if let Some(word) = memory.get_mut(at) {
+        *word = (n % 4294967296) as u32;
     }
 }
 
@@ -49,34 +30,36 @@ pub fn size(lines: usize) -> usize {
 
 // Where the block of a line starts in the copy that the n-th frame leaves.
 fn block(lines: usize, n: usize, line: usize) -> usize {
-    wrapping_add_usize(times(n, size(lines)), times(33, line / 8))
+    times(n, size(lines)).wrapping_add(times(33, line / 8))
 }
 
 // Where a line starts there.
 pub fn place(lines: usize, n: usize, line: usize) -> usize {
-    wrapping_add_usize(block(lines, n, line), line % 8 * 4)
+    block(lines, n, line).wrapping_add(line % 8 * 4)
 }
 
 // The bits of the block's written lines.
 fn bits(memory: &[u32], lines: usize, n: usize, line: usize) -> usize {
-    get(memory, wrapping_add_usize(block(lines, n, line), 32))
+    get(memory, block(lines, n, line).wrapping_add(32))
 }
 
 // Sets so many words to 0.
 pub fn clear(memory: &mut [u32], count: usize) {
-    for i in 0..count {
-        put(memory, i, 0);
-    }
+    let end = count.min(memory.len());
+    memory[..end].fill(0);
 }
 
-// Copies so many words, the first one first; a fresh copy has no written lines.
+// Copies so many words, the first one first; a fresh copy has no written lines. Outside the list noughts are read and nothing is put, which
+// `copy_within` would ask to be ruled out.
 pub fn copy(memory: &mut [u32], to: usize, from: usize, count: usize, fresh: bool) {
     for i in 0..count {
-        let mut n = get(memory, wrapping_add_usize(from, i));
-        if fresh && i % 33 == 32 {
-            n = 0;
-        }
-        put(memory, wrapping_add_usize(to, i), n);
+        let bits = fresh && i % 33 == 32;
+        let n = if bits {
+            0
+        } else {
+            get(memory, from.wrapping_add(i))
+        };
+        put(memory, to.wrapping_add(i), n);
     }
 }
 
@@ -86,34 +69,30 @@ fn is_written(memory: &[u32], lines: usize, n: usize, line: usize) -> bool {
 }
 
 // How many marks back the newest frame lies that wrote a line, or the archive, or nothing if no write to it is left.
-pub fn newest(memory: &[u32], lines: usize, live: usize, line: usize) -> usize {
+pub fn newest(memory: &[u32], lines: usize, live: usize, line: usize) -> Origin {
     for back in 0..live {
         if is_written(memory, lines, live - back, line) {
-            return back;
+            return Origin::Frame(back);
         }
     }
     if is_written(memory, lines, 0, line) {
-        return ARCHIVE;
+        Origin::Archive
+    } else {
+        Origin::Empty
     }
-    EMPTY
 }
 
 // The bits of a block's lines that are written in the base or in one of the k oldest frames.
 fn gathered(memory: &[u32], lines: usize, k: usize, line: usize) -> usize {
-    let mut set = bits(memory, lines, k, line);
-    for n in 0..k {
-        set = set | bits(memory, lines, n, line);
-    }
-    set
+    (0..=k).fold(0, |set, n| set | bits(memory, lines, n, line))
 }
 
 // Notes these in the copy that the k-th oldest frame leaves.
 pub fn gather(memory: &mut [u32], lines: usize, k: usize) {
-    let blocks = lines / 8;
-    for i in 0..blocks {
+    for i in 0..lines / 8 {
         let line = times(8, i);
         let set = gathered(memory, lines, k, line);
-        put(memory, wrapping_add_usize(block(lines, k, line), 32), set);
+        put(memory, block(lines, k, line).wrapping_add(32), set);
     }
 }
 
@@ -125,31 +104,26 @@ pub fn is_needed(memory: &[u32], lines: usize, live: usize, line: usize) -> bool
 // How many blocks of live frames have a written line.
 pub fn needed(memory: &[u32], lines: usize, live: usize) -> usize {
     let blocks = times(live, lines / 8);
-    let mut at = wrapping_add_usize(size(lines), 32);
-    let mut count = 0;
-    for i in 0..blocks {
-        if get(memory, at) != 0 {
-            count = wrapping_add_usize(count, 1);
-        }
-        at = wrapping_add_usize(at, 33);
-    }
-    count
+    let first = size(lines).wrapping_add(32);
+    (0..blocks)
+        .filter(|block| get(memory, first.wrapping_add(times(33, *block))) != 0)
+        .count()
 }
 
 // How far the number of so many bytes at an address lies from the low end of its word.
 fn shift(width: usize, address: usize) -> usize {
-    wrapping_sub_usize(4, wrapping_add_usize(address % 4, width)) % 4 * 8
+    4usize.wrapping_sub((address % 4).wrapping_add(width)) % 4 * 8
 }
 
 // Two words as one number.
 pub fn pair(memory: &[u32], at: usize, more: usize) -> usize {
-    let from = wrapping_add_usize(at, more);
-    (get(memory, from) << 32) | get(memory, wrapping_add_usize(from, 1))
+    let from = at.wrapping_add(more);
+    (get(memory, from) << 32) | get(memory, from.wrapping_add(1))
 }
 
 // The word of an address in CMF.
 fn word(lines: usize, live: usize, address: usize) -> usize {
-    wrapping_add_usize(place(lines, live, address / 16), address % 16 / 4)
+    place(lines, live, address / 16).wrapping_add(address % 16 / 4)
 }
 
 // The number in so many bytes at an address.
@@ -174,16 +148,9 @@ pub fn write(
     let at = word(lines, live, address);
     let change = value(memory, lines, live, width, address) ^ n;
     let before = get(memory, at);
-    put(
-        memory,
-        at,
-        before ^ (change << (shift(width, address) % 64)),
-    );
+    let moved = change << (shift(width, address) % 64);
+    put(memory, at, before ^ moved);
     let line = address / 16;
     let set = bits(memory, lines, live, line) | (1 << (line % 8));
-    put(
-        memory,
-        wrapping_add_usize(block(lines, live, line), 32),
-        set,
-    );
+    put(memory, block(lines, live, line).wrapping_add(32), set);
 }

@@ -1,128 +1,132 @@
 // Why the plain store turns a call down: the first reason in the document's order.
-use crate::pieces::UNANSWERED;
-use crate::{
-    ADVANCE, BLOCK, Call, LINE, Lengths, MARK, Plain, READ, RESET, ROLLBACK, WRITE, lengths, memory,
-};
-use std::num::wrapping_add_usize;
+use crate::{Call, Kind, Lengths, Plain, memory};
+use std::fmt;
 
-// A refusal where a test holds.
-fn only(refused: bool, refusal: usize) -> usize {
-    if refused {
-        return refusal;
-    }
-    0
+// The refusals by the papers' numbers; `Unknown` is for a number that they don't have, and no call of the plain store gets it.
+#[derive(Clone, Copy, PartialEq, Eq, Debug)]
+pub enum Refusal {
+    Settings = 4,
+    Blank = 5,
+    Short = 6,
+    Width = 7,
+    Alignment = 8,
+    End = 9,
+    Value = 10,
+    Count = 11,
+    Marks = 12,
+    Pool = 13,
+    Answers = 14,
+    Unknown = 77,
 }
 
-// 4
-fn of_settings(lines: usize, frames: usize, pages: usize) -> usize {
-    if lines % 8 != 0 || lines < 8 || lines > 4096 {
-        return 4;
+impl From<u32> for Refusal {
+    fn from(number: u32) -> Refusal {
+        match number {
+            4 => Refusal::Settings,
+            5 => Refusal::Blank,
+            6 => Refusal::Short,
+            7 => Refusal::Width,
+            8 => Refusal::Alignment,
+            9 => Refusal::End,
+            10 => Refusal::Value,
+            11 => Refusal::Count,
+            12 => Refusal::Marks,
+            13 => Refusal::Pool,
+            14 => Refusal::Answers,
+            _ => Refusal::Unknown,
+        }
     }
-    if frames % 16 != 0 || frames < 16 || frames > 256 {
-        return 4;
-    }
-    if pages < 1 || pages > 4096 {
-        return 4;
-    }
-    0
 }
 
-// 6
-fn of_lengths(lines: usize, frames: usize, pages: usize, lent: Lengths) -> usize {
-    let need = lengths::least(lines, frames, pages);
-    only(lengths::is_short(lent, need), 6)
+impl fmt::Display for Refusal {
+    fn fmt<W: fmt::Write>(&self, f: &mut fmt::Formatter<W>) -> fmt::Result {
+        write!(f, "{}", *self as u32)
+    }
 }
 
-// 4, 6
-fn of_reset(lines: usize, frames: usize, pages: usize, lent: Lengths) -> usize {
-    let settings = of_settings(lines, frames, pages);
-    if settings != 0 {
-        return settings;
-    }
+// A refusal where a demand is not met.
+fn demand(met: bool, refusal: Refusal) -> Result<(), Refusal> {
+    if met { Ok(()) } else { Err(refusal) }
+}
+
+fn of_settings(lines: usize, frames: usize, pages: usize) -> Result<(), Refusal> {
+    let sizes = lines % 8 == 0 && frames % 16 == 0;
+    let limits = matches!(lines, 8..=4096)
+        && matches!(frames, 16..=256)
+        && matches!(pages, 1..=4096);
+    demand(sizes && limits, Refusal::Settings)
+}
+
+fn of_lengths(lines: usize, frames: usize, pages: usize, lent: Lengths) -> Result<(), Refusal> {
+    let need = Lengths::least(lines, frames, pages);
+    demand(!lent.is_short(need), Refusal::Short)
+}
+
+fn of_reset(lines: usize, frames: usize, pages: usize, lent: Lengths) -> Result<(), Refusal> {
+    of_settings(lines, frames, pages)?;
     of_lengths(lines, frames, pages, lent)
 }
 
-// 7, 8, 9
-fn of_place(lines: usize, width: usize, address: usize) -> usize {
-    if width != 1 && width != 2 && width != 4 {
-        return 7;
-    }
-    if width == 2 && address % 2 != 0 {
-        return 8;
-    }
-    if width == 4 && address % 4 != 0 {
-        return 8;
-    }
-    if wrapping_add_usize(address, width) > memory::times(16, lines) {
-        return 9;
-    }
-    0
+fn of_place(lines: usize, width: usize, address: usize) -> Result<(), Refusal> {
+    let aligned = match width {
+        1 => true,
+        2 => address % 2 == 0,
+        4 => address % 4 == 0,
+        _ => return Err(Refusal::Width),
+    };
+    demand(aligned, Refusal::Alignment)?;
+    let end = address.wrapping_add(width);
+    demand(end <= memory::times(16, lines), Refusal::End)
 }
 
-// 7, 8, 9, 10, 13
-fn of_write(memory: &[u32], plain: Plain, width: usize, address: usize, n: usize) -> usize {
-    let place = of_place(plain.lines, width, address);
-    if place != 0 {
-        return place;
-    }
-    if width == 1 && n > 255 {
-        return 10;
-    }
-    if width == 2 && n > 65535 {
-        return 10;
-    }
-    if memory::is_needed(memory, plain.lines, plain.live, address / 16) {
-        return 0;
-    }
-    if memory::needed(memory, plain.lines, plain.live) < plain.pages {
-        return 0;
-    }
-    13
+fn of_write(
+    memory: &[u32],
+    plain: &Plain,
+    width: usize,
+    address: usize,
+    n: usize,
+) -> Result<(), Refusal> {
+    of_place(plain.lines, width, address)?;
+    let most = match width {
+        1 => 255,
+        2 => 65535,
+        _ => 4294967295,
+    };
+    demand(n <= most, Refusal::Value)?;
+    let room = memory::is_needed(memory, plain.lines, plain.live, address / 16)
+        || memory::needed(memory, plain.lines, plain.live) < plain.pages;
+    demand(room, Refusal::Pool)
 }
 
-// 5, 6
-fn of_store(plain: Plain, blank: bool, lent: Lengths) -> usize {
-    if blank || plain.lines == 0 {
-        return 5;
-    }
+fn of_store(plain: &Plain, blank: bool, lent: Lengths) -> Result<(), Refusal> {
+    demand(!blank && plain.lines != 0, Refusal::Blank)?;
     of_lengths(plain.lines, plain.frames, plain.pages, lent)
 }
 
-// 11: k is 0 or more than the live frames but one.
-fn of_frames(live: usize, k: usize) -> usize {
-    if k == 0 || k >= live {
-        return 11;
-    }
-    0
+// k is not 0, and not more than the live frames but one.
+fn of_frames(live: usize, k: usize) -> Result<(), Refusal> {
+    demand(0 < k && k < live, Refusal::Count)
 }
 
-// 7 to 14
-fn of_call(memory: &[u32], plain: Plain, call: Call) -> usize {
+fn of_call(memory: &[u32], plain: &Plain, call: Call) -> Result<(), Refusal> {
     let a = call.a as usize;
     let b = call.b as usize;
-    let kind = call.kind;
-    match kind {
-        WRITE => of_write(memory, plain, a, b, call.c as usize),
-        READ => of_place(plain.lines, a, b),
-        LINE => only(a >= plain.lines, 9),
-        MARK => only(plain.live == plain.frames, 12),
-        ROLLBACK | ADVANCE => of_frames(plain.live, a),
-        BLOCK => only(b < a, 14),
-        _ => 0,
+    match call.kind {
+        Kind::Write => of_write(memory, plain, a, b, call.c as usize),
+        Kind::Read => of_place(plain.lines, a, b),
+        Kind::Line => demand(a < plain.lines, Refusal::End),
+        Kind::Mark => demand(plain.live != plain.frames, Refusal::Marks),
+        Kind::Rollback | Kind::Advance => of_frames(plain.live, a),
+        Kind::Block => demand(a <= b, Refusal::Answers),
+        Kind::Reset | Kind::Counts | Kind::Check => Ok(()),
     }
 }
 
-// The refusal of a call, or 0; no call is unanswered.
-pub fn refusal(memory: &[u32], plain: Plain, call: Call, lent: Lengths) -> usize {
-    if call.kind == RESET {
+// Whether a call is accepted.
+pub fn admit(memory: &[u32], plain: &Plain, call: Call, lent: Lengths) -> Result<(), Refusal> {
+    if call.kind == Kind::Reset {
         return of_reset(call.a as usize, call.b as usize, call.c as usize, lent);
     }
-    if call.kind > BLOCK {
-        return UNANSWERED;
-    }
-    let first = of_store(plain, call.blank, lent);
-    if first != 0 {
-        return first;
-    }
+    of_store(plain, call.blank, lent)?;
     of_call(memory, plain, call)
 }

@@ -68,12 +68,6 @@ module _ (n frame : ℕ) (b : frame < n) where
   next-cases : ((frame + 1 < n) × ((frame + 1) % n ≡ frame + 1)) ⊎ ((n ≤ frame + 1) × ((frame + 1) % n + n ≡ frame + 1))
   next-cases = wrap n (frame + 1) (omega arith)
 
-  pub next-on : frame + 1 < n → frame + 1 ≡ (frame + 1) % n
-  next-on h = sym (mod-eq_of_lt h)
-
-  pub next-round : n ≤ frame + 1 → 0 ≡ (frame + 1) % n
-  next-round h = ⊎_elim (λ w. absurd (omega (arith, w.0))) (λ w. omega (arith, w.1)) next-cases
-
 -- No frame is left just where OMF is the one behind CMF.
 module _ (n omf cmf : ℕ) (h : omf < n) (b : cmf < n) (next : ℕ) (is : next ≡ (cmf + 1) % n) where
   abbrev i : ℕ

@@ -1,84 +1,15 @@
--- Lines in a list of bytes: the loops that copy one out and in, and what a line written there leaves to read. Assumes nothing.
-use mathlib.Core.Path.{◌≡◌, refl, sym, ◌∙◌, ap, ap₂, subst}
+-- Lines in a list of bytes: what a line written there leaves to read. Assumes nothing.
+use mathlib.Core.Path.{◌≡◌, sym, ◌∙◌, ap, ap₂}
 use mathlib.Core.Logic.{◌⊎◌, inl, inr, ◌≢◌}
-use mathlib.Core.List.{List, ◌++◌, append-nil, append_assoc}
-use Prim.Native.Nat.{ℕ, suc, ◌+◌, ◌*◌, ◌-◌, ◌≤◌, ◌<◌}
-use native.Mathlib.Nat.{zero-add, add_assoc}
+use mathlib.Core.List.{List, ◌++◌, append_assoc}
+use Prim.Native.Nat.{ℕ, ◌+◌, ◌*◌, ◌-◌, ◌≤◌, ◌<◌}
+use native.Mathlib.Nat.{add_assoc}
 use native.Mathlib.Decide.{dec_lt}
-use native.Mathlib.Numerals.{add-one}
 use native.Mathlib.Omega.{arith}
-use lib.ListN.{length, get_or, set, take, drop, length-set, length-drop, drop_of_length-le, take-append-drop, get_or-eq_default}
-use lib.Seq.{paste, paste-suc, paste-zero, length-paste, drop-paste, length-take-le, take_at, drop_at, take_all, take-append-le, drop-append-le, take-append-add, drop-append-add, take-take, drop-drop, get_or-take, get_or-drop}
+use lib.ListN.{length, get_or, take, drop, length-drop, take-append-drop, get_or-eq_default}
+use lib.Seq.{length-paste, drop-paste, length-take-le, take_at, drop_at, take_all, take-append-le, drop-append-le, take-append-add, drop-append-add, take-take, drop-drop, get_or-take, get_or-drop}
 use Rattle.rules.specs.Line.{IsLine}
 use Rattle.lists.specs.Lines.{line_at, paste_line}
-
--- ---- the loop that copies a line in
--- A list of bytes with the first i bytes of a line copied to it.
-pub record Copied (bytes line now : List ℕ) (at i : ℕ) : Type 0 where
-  pub room : at + 16 ≤ length bytes
-  pub whole : length line ≡ 16
-  pub few : i ≤ 16
-  pub long : length now ≡ length bytes
-  pub same : now ≡ paste bytes at line i
-
-pub copied-start : (bytes line : List ℕ) (at : ℕ) → at + 16 ≤ length bytes → length line ≡ 16 → Copied bytes line bytes at 0
-copied-start bytes line at room whole =
-    record { room = room; whole = whole; few = omega arith; long = refl; same = paste-zero bytes at line }
-
-module _ {bytes line now : List ℕ} {at i : ℕ} (c : Copied bytes line now at i) where
-  pub copied_next : i < 16 → Copied bytes line (set now (at + i) (get_or line i 0)) at (i + 1)
-  copied_next h =
-      record {
-        room = c.room;
-        whole = c.whole;
-        few = omega arith;
-        long = length-set now (at + i) (get_or line i 0) ∙ c.long;
-        same =
-            ap (λ (xs : List ℕ). set xs (at + i) (get_or line i 0)) c.same
-            ∙ (paste-suc bytes at line i 0 (omega (arith, c.room)) (omega (arith, c.whole)) ∙ ap (λ (n : ℕ). paste bytes at line n) (sym (add-one i)));
-      }
-
-  pub copied-end : 16 ≤ i → now ≡ paste_line bytes at line
-  unfolding paste_line
-  copied-end h =
-      let e : i ≡ 16 = omega (arith, c.few) in
-      c.same ∙ ap (λ (n : ℕ). paste bytes at line n) e
-
--- ---- the loop that copies a line out
--- A line with its first i bytes copied from a list of bytes.
-pub record Read (bytes line now : List ℕ) (at i : ℕ) : Type 0 where
-  pub room : at + 16 ≤ length bytes
-  pub whole : length line ≡ 16
-  pub few : i ≤ 16
-  pub same : now ≡ take i (drop at bytes) ++ drop i line
-
-pub read-start : (bytes line : List ℕ) (at : ℕ) → at + 16 ≤ length bytes → length line ≡ 16 → Read bytes line line at 0
-read-start bytes line at room whole = record { room = room; whole = whole; few = omega arith; same = refl }
-
-module _ {bytes line now : List ℕ} {at i : ℕ} (r : Read bytes line now at i) where
-  pub read_next : i < 16 → Read bytes line (set now i (get_or bytes (at + i) 0)) at (i + 1)
-  read_next h =
-      let s : List ℕ = drop at bytes in
-      record {
-        room = r.room;
-        whole = r.whole;
-        few = omega arith;
-        same =
-            ap₂ (λ (xs : List ℕ) (x : ℕ). set xs i x) r.same (sym (get_or-drop at bytes i 0))
-            ∙ (subst (λ (k : ℕ). set (take i s ++ drop k line) k (get_or s i 0) ≡ take (suc i) s ++ drop (0 + suc i) line) (zero-add i)
-            (paste-suc line 0 s i 0 (omega (arith, r.whole)) (omega (arith, r.room, length-drop at bytes)))
-            ∙ (ap (λ (k : ℕ). take (suc i) s ++ drop k line) (zero-add (suc i))
-            ∙ ap (λ (k : ℕ). take k s ++ drop k line) (sym (add-one i))));
-      }
-
-  pub read-end : 16 ≤ i → now ≡ line_at bytes at
-  unfolding line_at
-  read-end h =
-      let e : i ≡ 16 = omega (arith, r.few) in
-      r.same
-      ∙ (ap (λ (n : ℕ). take n (drop at bytes) ++ drop n line) e
-      ∙ (ap (λ (xs : List ℕ). take 16 (drop at bytes) ++ xs) (drop_of_length-le line {i = 16} (omega (arith, r.whole)))
-      ∙ append-nil (take 16 (drop at bytes))))
 
 -- ---- in two lists, one behind the other
 module _ (xs ys : List ℕ) (at : ℕ) where

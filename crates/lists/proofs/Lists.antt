@@ -1,14 +1,16 @@
 -- A list rewritten element by element. Assumes nothing.
 use mathlib.Core.Path.{◌≡◌, refl, sym, ◌∙◌, ap, ap₂}
 use mathlib.Core.Logic.{◌≢◌, ◌⊎◌, inl, inr}
-use mathlib.Core.List.{List}
-use Prim.Native.Nat.{ℕ, zero, suc, ◌+◌, ◌≤◌, ◌<◌}
+use mathlib.Core.List.{List, ◌++◌}
+use Prim.Native.Nat.{ℕ, zero, suc, ◌+◌, ◌-◌, ◌≤◌, ◌<◌}
 use native.Mathlib.Nat.{add-zero, add-suc}
 use native.Mathlib.Numerals.{add-one}
 use native.Mathlib.Decide.{ℕ_discrete}
 use native.Mathlib.Omega.{arith}
-use lib.ListN.{length, get_or, set, drop, length-set}
-use lib.Seq.{drop-set-lt, get_or-set_same, get_or-set_other}
+use borrow.Rule.Slice.PartMut.{put_mid}
+use lib.ListN.{length, get_or, set, take, drop, replicate, length-set, length-drop, take-append-drop}
+use lib.Seq.{drop-set-lt, get_or-set_same, get_or-set_other, get_or-take, get_or-drop, length-take-le}
+use Rattle.std.proofs.lemmas.List.{same_lists, set-append_left, set-append_right, length-replicate, get_or-replicate, get_or_default}
 use Rattle.lists.specs.Lists.{rewrite, rewrite_from}
 
 module _ (f : ℕ → ℕ → ℕ) (xs : List ℕ) where
@@ -106,34 +108,6 @@ module _ (at : ℕ) (f : ℕ → ℕ) (xs : List ℕ) where
           ∙ ap (λ (i : ℕ). f (get_or xs i 0)) (sym e))
       go (no d) ih = get_or-set_other (rewrite_from at n f xs) (at + n) p (f (get_or xs (at + n) 0)) 0 d ∙ ih (omega arith)
 
-  -- The list of a loop over count of them, at its n-th turn: one element is read, and what f gives of it is put at its place.
-  pub record RewrittenFrom (count n : ℕ) (now : List ℕ) : Type 0 where
-    pub few : n ≤ count
-    pub long : length now ≡ length xs
-    pub same : now ≡ rewrite_from at n f xs
-
-  pub from_start : (count : ℕ) → RewrittenFrom count 0 xs
-  unfolding rewrite_from
-  from_start count = record { few = omega arith; long = refl; same = refl }
-
-  pub from_next : (count n : ℕ) (now after : List ℕ) (place x v : ℕ) → RewrittenFrom count n now → n < count → place ≡ at + n → x ≡ get_or now place 0
-      → v ≡ f x → after ≡ set now place v → RewrittenFrom count (n + 1) after
-  unfolding rewrite_from
-  from_next count n now after place x v c b p d e a =
-      record {
-        few = omega arith;
-        long = ap length a ∙ (length-set now place v ∙ c.long);
-        same = a ∙ ((λ i. set (c.same i) (p i) (value i)) ∙ ap (λ (k : ℕ). rewrite_from at k f xs) (sym (add-one n)));
-      }
-    where
-      value : v ≡ f (get_or xs (at + n) 0)
-      value = e ∙ ap f (d ∙ (λ i. get_or (c.same i) (p i) 0) ∙ from-outside n (at + n) (inr (omega arith)))
-
-  pub from_end : (count n : ℕ) (now : List ℕ) → RewrittenFrom count n now → count ≤ n → now ≡ rewrite_from at count f xs
-  from_end count n now c h =
-      let all : n ≡ count = omega (arith, c.few) in
-      c.same ∙ ap (λ (k : ℕ). rewrite_from at k f xs) all
-
 -- Where the first a elements are rewritten and then the k behind them, the first a + k are.
 module _ {f : ℕ → ℕ → ℕ} {xs now : List ℕ} (a k : ℕ) (g : ℕ → ℕ) (h : Rewritten a f xs now) (same : (j x : ℕ) → j < k → g x ≡ f (a + j) x) where
   behind-value : (n : ℕ) → n < k → g (get_or now (a + n) 0) ≡ f (a + n) (get_or xs (a + n) 0)
@@ -151,3 +125,72 @@ module _ {f : ℕ → ℕ → ℕ} {xs now : List ℕ} (a k : ℕ) (g : ℕ → 
   rewrite-behind after e =
       let is : after ≡ rewrite (a + k) f xs = e ∙ behind_more k (omega arith) in
       record { long = ap length is ∙ rewrite-length f xs (a + k); same = is }
+
+-- ---- A part of a list rewritten where it stands, in the form in which a loop over the part, or `fill`, leaves the list.
+-- The first m elements are the part, of which n are rewritten.
+pub rewrite-front : (f : ℕ → ℕ → ℕ) (xs : List ℕ) (n m : ℕ) → n ≤ m → m ≤ length xs → rewrite n f (take m xs) ++ drop m xs ≡ rewrite n f xs
+unfolding rewrite
+rewrite-front f xs zero m a b = take-append-drop m xs
+rewrite-front f xs (suc n) m a b =
+    let before : List ℕ = rewrite n f (take m xs) in
+    let long : n < length before = omega (arith, rewrite-length f (take m xs) n, length-take-le m xs b) in
+    sym (set-append_left before (drop m xs) n (f n (get_or (take m xs) n 0)) long)
+    ∙ ap₂ (λ (zs : List ℕ) (x : ℕ). set zs n (f n x)) (rewrite-front f xs n m (omega arith) b) (get_or-take m xs n 0 (omega arith))
+
+-- Neighbours rewritten are the part behind them rewritten from its start.
+from-part : (at : ℕ) (f : ℕ → ℕ) (xs : List ℕ) → at ≤ length xs → (n : ℕ) → rewrite_from at n f xs ≡ take at xs ++ rewrite n (λ _ x. f x) (drop at xs)
+unfolding rewrite rewrite_from
+from-part at f xs b zero = sym (take-append-drop at xs)
+from-part at f xs b (suc n) =
+    let now : List ℕ = rewrite n (λ _ x. f x) (drop at xs) in
+    let index : at + n - at ≡ n = omega arith in
+    ap₂ (λ (zs : List ℕ) (x : ℕ). set zs (at + n) (f x)) (from-part at f xs b n) (sym (get_or-drop at xs n 0))
+    ∙ (set-append_right (take at xs) now at (at + n) (f (get_or (drop at xs) n 0)) (length-take-le at xs b) (omega arith)
+    ∙ ap (λ (i : ℕ). take at xs ++ set now i (f (get_or (drop at xs) n 0))) index)
+
+pub part-rewritten : (at n : ℕ) (f : ℕ → ℕ) (xs ys : List ℕ) → at + n ≤ length xs → ys ≡ rewrite n (λ _ x. f x) (take n (drop at xs))
+    → put_mid at n xs ys ≡ rewrite_from at n f xs
+part-rewritten at n f xs ys b e =
+    ap (λ (zs : List ℕ). take at xs ++ (zs ++ drop n (drop at xs))) e
+    ∙ (ap (λ (zs : List ℕ). take at xs ++ zs) (rewrite-front (λ _ x. f x) (drop at xs) n n (omega arith) (omega (arith, length-drop at xs)))
+    ∙ sym (from-part at f xs (omega arith) n))
+
+-- One value in all places,
+all-one : (v : ℕ) (xs : List ℕ) → replicate (length xs) v ≡ rewrite (length xs) (λ _ _. v) xs
+all-one v xs = same_lists _ _ (length-replicate (length xs) v ∙ sym (rewrite-length (λ _ _. v) xs (length xs))) same
+  where
+    same : (k d : ℕ) → k < length (replicate (length xs) v) → get_or (replicate (length xs) v) k d ≡ get_or (rewrite (length xs) (λ _ _. v) xs) k d
+    same k d h =
+        let b : k < length xs = omega (arith, length-replicate (length xs) v) in
+        get_or-replicate (length xs) k v d b
+        ∙ (sym (rewrite-at (λ _ _. v) xs (length xs) k b b)
+        ∙ get_or_default (rewrite (length xs) (λ _ _. v) xs) k 0 d (omega (arith, rewrite-length (λ _ _. v) xs (length xs))))
+
+-- and so in the first m places, or in neighbours.
+pub filled-front : (v m : ℕ) (xs ys : List ℕ) → m ≤ length xs → ys ≡ replicate (length (take m xs)) v → ys ++ drop m xs ≡ rewrite m (λ _ _. v) xs
+filled-front v m xs ys b e =
+    ap (λ (zs : List ℕ). zs ++ drop m xs) (e ∙ all-one v (take m xs))
+    ∙ (ap (λ (n : ℕ). rewrite n (λ _ _. v) (take m xs) ++ drop m xs) (length-take-le m xs b) ∙ rewrite-front (λ _ _. v) xs m m (omega arith) b)
+
+pub filled-part : (v at m n : ℕ) (xs ys : List ℕ) → m ≡ n → at + n ≤ length xs → ys ≡ replicate (length (take m (drop at xs))) v
+    → put_mid at m xs ys ≡ rewrite_from at n (λ _. v) xs
+filled-part v at m n xs ys d b e =
+    part-rewritten at m (λ _. v) xs ys (omega arith)
+    (e ∙ (all-one v (take m (drop at xs))
+    ∙ ap (λ (k : ℕ). rewrite k (λ _ _. v) (take m (drop at xs))) (length-take-le m (drop at xs) (omega (arith, length-drop at xs)))))
+    ∙ ap (λ (j : ℕ). rewrite_from at j (λ _. v) xs) d
+
+-- What a loop over such a part leaves, at its end.
+pub loop-front : (m : ℕ) (xs : List ℕ) {f : ℕ → ℕ → ℕ} {now : List ℕ} {n : ℕ} → m ≤ length xs → Rewritten n f (take m xs) now → n ≤ length (take m xs)
+    → length (take m xs) ≤ n → now ++ drop m xs ≡ rewrite m f xs
+loop-front m xs {f} {now} {n} b h few all =
+    ap (λ (zs : List ℕ). zs ++ drop m xs) (rewrite-end m h (omega (arith, few, length-take-le m xs b)) (omega (arith, all, length-take-le m xs b)))
+    ∙ rewrite-front f xs m m (omega arith) b
+
+pub loop-part : (at m place k : ℕ) (xs : List ℕ) {f : ℕ → ℕ} {now : List ℕ} {n : ℕ} → at ≡ place → m ≡ k → place + k ≤ length xs
+    → Rewritten n (λ _ x. f x) (take m (drop at xs)) now → n ≤ length (take m (drop at xs)) → length (take m (drop at xs)) ≤ n
+    → put_mid at m xs now ≡ rewrite_from place k f xs
+loop-part at m place k xs {f} {now} {n} e d b h few all =
+    let long : length (take m (drop at xs)) ≡ m = length-take-le m (drop at xs) (omega (arith, length-drop at xs)) in
+    part-rewritten at m f xs now (omega arith) (rewrite-end m h (omega (arith, few, long)) (omega (arith, all, long)))
+    ∙ ap₂ (λ (i j : ℕ). rewrite_from i j f xs) e d

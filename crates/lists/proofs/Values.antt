@@ -1,17 +1,18 @@
--- Values of some bytes in a list of bytes: what single bytes read and written come to, and a value in a line that stands in a longer list.
+-- Values of some bytes in a list of bytes: what their bytes read and written come to, and a value in a line that stands in a longer list.
 -- Assumes nothing.
-use mathlib.Core.Path.{◌≡◌, refl, sym, ◌∙◌, ap, ap₂}
+use mathlib.Core.Path.{◌≡◌, sym, ◌∙◌, ap, ap₂}
 use mathlib.Core.Logic.{◌≢◌}
 use mathlib.Core.Bool.{Bool, true, ◌||◌}
-use mathlib.Core.List.{List, ◌∷◌, ◌++◌, append_assoc}
-use Prim.Native.Nat.{ℕ, suc, ◌+◌, ◌*◌, ◌/◌, ◌%◌, ◌^◌, ◌≤◌, ◌<◌}
-use native.Mathlib.Nat.{add-zero, add_assoc, div-one}
-use native.Mathlib.Decide.{ℕ_discrete}
+use borrow.Rule.Slice.PartMut.{put_mid}
+use mathlib.Core.List.{List, [], ◌∷◌, ◌++◌, append_assoc}
+use Prim.Native.Nat.{ℕ, suc, ◌+◌, ◌-◌, ◌*◌, ◌/◌, ◌%◌, ◌^◌, ◌≤◌, ◌<◌}
+use native.Mathlib.Nat.{add_assoc}
 use native.Mathlib.Omega.{arith}
 use borrow.Author.Tests.{eqb-true, ne_eqb}
 use lib.Dec.{eqb}
 use lib.ListN.{length, get_or, set, take, drop, take-append-drop, length-drop}
-use lib.Seq.{drop-cons, take-suc, set_at, append_snoc, length-take-le, take_all, take-take, drop-drop, take-add, take-append-le, drop-append-le}
+use lib.Seq.{drop-cons, length-take-le, take_all, take-take, drop-drop, take-add, take-append-le, drop-append-le}
+use Rattle.std.proofs.lemmas.List.{set_split}
 use Rattle.rules.specs.Line.{bytes_of, value_of, edit, value_at}
 use Rattle.rules.specs.Refusal.{is_width}
 use Rattle.rules.proofs.Line.{length-edit}
@@ -22,12 +23,9 @@ pub four : (w : ℕ) → is_width w ≡ true → w ≢ 1 → w ≢ 2 → w ≡ 4
 unfolding is_width
 four w h a b = eqb-true w 4 (sym (ap₂ (λ (x y : Bool). x || y || eqb w 4) (ne_eqb w 1 a) (ne_eqb w 2 b)) ∙ h)
 
--- One that is not 1 is 2 or more, and each is 1 or more.
-pub two-more : (w : ℕ) → is_width w ≡ true → w ≢ 1 → 2 ≤ w
-two-more w h a = elim (ℕ_discrete w 2) [ yes e ↦ omega arith | no b ↦ omega (arith, four w h a b) ]
-
-pub one_more : (w : ℕ) → is_width w ≡ true → 1 ≤ w
-one_more w h = elim (ℕ_discrete w 1) [ yes e ↦ omega arith | no a ↦ omega (arith, two-more w h a) ]
+-- A value of four bytes lies in the list.
+pub four_inside : {w at long : ℕ} → AsksValue w at long → w ≢ 1 → w ≢ 2 → at + 4 ≤ long
+four_inside {w} asks o t = omega (arith, asks.inside, four w asks.width_is o t)
 
 -- ---- reading
 -- one byte more
@@ -41,82 +39,76 @@ value-first n x at h =
     let none : (b : ℕ) → 0 * 256 + b ≡ b = λ b. omega arith in
     value-more 0 n x at h ∙ ap (λ (b : ℕ). value_of b (take n (drop (suc at) x))) (none (get_or x at 0))
 
-module _ (w at : ℕ) (x : List ℕ) (asks : AsksValue w at (length x)) (a : ℕ) (first : (a ≡ get_or x at 0) × (a < 256)) where
-  pub value-one : w ≡ 1 → a ≡ value_at w at x
+module _ (w at : ℕ) (x : List ℕ) (asks : AsksValue w at (length x)) where
+  abbrev byte : ℕ → ℕ
+  byte i = get_or x (at + i) 0
+
+  -- the bytes by their places, in the form in which the chain has them
+  place : (i j : ℕ) → i ≡ at + j → get_or x i 0 ≡ byte j
+  place i j e = ap (λ (n : ℕ). get_or x n 0) e
+
+  pub value-one : w ≡ 1 → get_or x at 0 ≡ value_at w at x
   unfolding value_at value_of
-  value-one e =
-      first.0
-      ∙ sym (ap (λ (n : ℕ). value_of 0 (take n (drop at x))) e ∙ value-first 0 x at (omega (arith, asks.inside)))
+  value-one e = sym (ap (λ (n : ℕ). value_of 0 (take n (drop at x))) e ∙ value-first 0 x at (omega (arith, asks.inside)))
 
-  module _ (b : ℕ) (second : (b ≡ get_or x (at + 1) 0) × (b < 256)) where
-    pub value-two : w ≡ 2 → a * 256 + b ≡ value_at w at x
-    unfolding value_at value_of
-    value-two e =
-        let i : suc at ≡ at + 1 = omega arith in
-        ap₂ (λ (m n : ℕ). m * 256 + n) first.0 (second.0 ∙ ap (λ (n : ℕ). get_or x n 0) (sym i))
-        ∙ sym (ap (λ (n : ℕ). value_of 0 (take n (drop at x))) e
-        ∙ (value-first 1 x at (omega (arith, asks.inside)) ∙ value-more (get_or x at 0) 0 x (suc at) (omega (arith, asks.inside))))
+  pub value-two : w ≡ 2 → get_or x at 0 * 256 + byte 1 ≡ value_at w at x
+  unfolding value_at value_of
+  value-two e =
+      sym (ap (λ (n : ℕ). value_of 0 (take n (drop at x))) e
+      ∙ (value-first 1 x at (omega (arith, asks.inside))
+      ∙ (value-more (get_or x at 0) 0 x (suc at) (omega (arith, asks.inside))
+      ∙ ap (λ (n : ℕ). get_or x at 0 * 256 + n) (place (suc at) 1 (omega arith)))))
 
-    pub value-four : w ≢ 1 → w ≢ 2 → (c : ℕ) → (c ≡ get_or x (at + 2) 0) × (c < 256) → (d : ℕ) → (d ≡ get_or x (at + 3) 0) × (d < 256)
-        → ((a * 256 + b) * 256 + c) * 256 + d ≡ value_at w at x
-    unfolding value_at value_of
-    value-four o t c third d fourth =
-        let e : w ≡ 4 = four w asks.width_is o t in
-        let byte : (i j : ℕ) → i ≡ j → get_or x j 0 ≡ get_or x i 0 = λ i j s. ap (λ (n : ℕ). get_or x n 0) (sym s) in
-        let value : (i j k l : ℕ) → ℕ = λ i j k l. ((i * 256 + j) * 256 + k) * 256 + l in
-        (λ i.
-        value (first.0 i) ((second.0 ∙ byte (suc at) (at + 1) (omega arith)) i) ((third.0 ∙ byte (suc (suc at)) (at + 2) (omega arith)) i)
-        ((fourth.0 ∙ byte (suc (suc (suc at))) (at + 3) (omega arith)) i))
-        ∙ sym (ap (λ (n : ℕ). value_of 0 (take n (drop at x))) e
-        ∙ (value-first 3 x at (omega (arith, asks.inside))
-        ∙ (value-more _ 2 x (suc at) (omega (arith, asks.inside))
-        ∙ (value-more _ 1 x (suc (suc at)) (omega (arith, asks.inside))
-        ∙ value-more _ 0 x (suc (suc (suc at))) (omega (arith, asks.inside))))))
+  pub value-four : w ≢ 1 → w ≢ 2 → get_or x at 0 * 16777216 + byte 1 * 65536 + byte 2 * 256 + byte 3 ≡ value_at w at x
+  unfolding value_at value_of
+  value-four o t =
+      let e : w ≡ 4 = four w asks.width_is o t in
+      let all : value_of 0 (take w (drop at x)) ≡ ((get_or x at 0 * 256 + get_or x (suc at) 0) * 256 + get_or x (suc (suc at)) 0) * 256 + get_or x (suc (suc (suc at))) 0 =
+      ap (λ (n : ℕ). value_of 0 (take n (drop at x))) e
+      ∙ (value-first 3 x at (omega (arith, asks.inside))
+      ∙ (value-more _ 2 x (suc at) (omega (arith, asks.inside))
+      ∙ (value-more _ 1 x (suc (suc at)) (omega (arith, asks.inside))
+      ∙ value-more _ 0 x (suc (suc (suc at))) (omega (arith, asks.inside)))))
+      in
+      omega (
+        arith,
+        all,
+        place (suc at) 1 (omega arith),
+        place (suc (suc at)) 2 (omega arith),
+        place (suc (suc (suc at))) 3 (omega arith),
+      )
 
 -- ---- writing
--- none
-edit-none : (at v : ℕ) (x : List ℕ) → x ≡ edit 0 at v x
-unfolding edit bytes_of
-edit-none at v x = sym (ap (λ (n : ℕ). take at x ++ drop n x) (add-zero at) ∙ take-append-drop at x)
-
--- one byte more
-edit-more : (k i at v : ℕ) (x : List ℕ) → i ≡ suc at → i + k ≤ length x → set (edit k i v x) at (v / 256 ^ k % 256) ≡ edit (suc k) at v x
-unfolding edit bytes_of
-edit-more k i at v x s h =
-    let b : ℕ = v / 256 ^ k % 256 in
-    let tail : List ℕ = bytes_of k v ++ drop (suc at + k) x in
-    let e : suc at + k ≡ at + suc k = omega arith in
-    ap (λ (n : ℕ). set (edit k n v x) at b) s
-    ∙ (ap (λ (ys : List ℕ). set (ys ++ tail) at b) (take-suc x at 0 (omega arith))
-    ∙ (ap (λ (ys : List ℕ). set ys at b) (append_snoc (take at x) (get_or x at 0) tail)
-    ∙ (set_at (take at x) (get_or x at 0) tail b at (length-take-le at x (omega arith))
-    ∙ ap (λ (n : ℕ). take at x ++ (b ∷ (bytes_of k v ++ drop n x))) e)))
-
--- The list after one byte written at a place that is followed by so many.
-edit-last : (at v : ℕ) (x : List ℕ) → at < length x → set x at (v % 256) ≡ edit 1 at v x
-edit-last at v x h =
-    ap₂ (λ (ys : List ℕ) (n : ℕ). set ys at (n % 256)) (edit-none (suc at) v x) (sym (div-one v))
-    ∙ edit-more 0 (suc at) at v x refl (omega arith)
+-- the list after so many bytes of a value are copied to a place
+copied_edit : (k at v : ℕ) (x ys : List ℕ) → ys ≡ bytes_of k v → put_mid at (at + k - at) x ys ≡ edit k at v x
+unfolding edit
+copied_edit k at v x ys e =
+    let n : at + k - at ≡ k = omega arith in
+    (λ i. take at x ++ (e i ++ drop (n i) (drop at x))) ∙ ap (λ (zs : List ℕ). take at x ++ (bytes_of k v ++ zs)) (drop-drop k at x)
 
 module _ (w at v : ℕ) (x : List ℕ) (asks : AsksValue w at (length x)) where
   pub edit-one : w ≡ 1 → set x at (v % 256) ≡ edit w at v x
-  edit-one e = edit-last at v x (omega (arith, asks.inside)) ∙ ap (λ (n : ℕ). edit n at v x) (sym e)
+  unfolding edit bytes_of
+  edit-one e =
+      let low : v % 256 ≡ v / 256 ^ 0 % 256 = omega arith in
+      let next : suc at ≡ at + 1 = omega arith in
+      set_split x at (v % 256) (omega (arith, asks.inside))
+      ∙ ((λ i. take at x ++ (low i ∷ drop (next i) x)) ∙ ap (λ (n : ℕ). edit n at v x) (sym e))
 
-  pub edit-two : w ≡ 2 → set (set x (at + 1) (v % 256)) at (v / 256 % 256) ≡ edit w at v x
-  edit-two e =
-      ap (λ (ys : List ℕ). set ys at (v / 256 % 256)) (edit-last (at + 1) v x (omega (arith, asks.inside)))
-      ∙ (edit-more 1 (at + 1) at v x (omega arith) (omega (arith, asks.inside)) ∙ ap (λ (n : ℕ). edit n at v x) (sym e))
+  pub edit-two : (ys : List ℕ) → w ≡ 2 → ys ≡ v % 65536 / 256 % 256 ∷ v % 65536 % 256 ∷ [] → put_mid at (at + 2 - at) x ys ≡ edit w at v x
+  unfolding bytes_of
+  edit-two ys e h =
+      let high : v % 65536 / 256 % 256 ≡ v / 256 ^ 1 % 256 = omega arith in
+      let low : v % 65536 % 256 ≡ v / 256 ^ 0 % 256 = omega arith in
+      copied_edit 2 at v x ys (h ∙ (λ i. high i ∷ low i ∷ [])) ∙ ap (λ (n : ℕ). edit n at v x) (sym e)
 
-  pub edit-four : w ≢ 1 → w ≢ 2
-      → set (set (set (set x (at + 3) (v % 256)) (at + 2) (v / 256 % 256)) (at + 1) (v / 65536 % 256)) at (v / 16777216 % 256) ≡ edit w at v x
-  edit-four o t =
+  pub edit-four : (ys : List ℕ) → w ≢ 1 → w ≢ 2
+      → ys ≡ v / 16777216 % 256 ∷ v / 65536 % 256 ∷ v / 256 % 256 ∷ v % 256 ∷ [] → put_mid at (at + 4 - at) x ys ≡ edit w at v x
+  unfolding bytes_of
+  edit-four ys o t h =
       let e : w ≡ 4 = four w asks.width_is o t in
-      ap (λ (ys : List ℕ). set (set (set ys (at + 2) (v / 256 % 256)) (at + 1) (v / 65536 % 256)) at (v / 16777216 % 256))
-      (edit-last (at + 3) v x (omega (arith, asks.inside)))
-      ∙ (ap (λ (ys : List ℕ). set (set ys (at + 1) (v / 65536 % 256)) at (v / 16777216 % 256))
-      (edit-more 1 (at + 3) (at + 2) v x (omega arith) (omega (arith, asks.inside)))
-      ∙ (ap (λ (ys : List ℕ). set ys at (v / 16777216 % 256)) (edit-more 2 (at + 2) (at + 1) v x (omega arith) (omega (arith, asks.inside)))
-      ∙ (edit-more 3 (at + 1) at v x (omega arith) (omega (arith, asks.inside)) ∙ ap (λ (n : ℕ). edit n at v x) (sym e))))
+      let low : v % 256 ≡ v / 256 ^ 0 % 256 = omega arith in
+      copied_edit 4 at v x ys (h ∙ (λ i. v / 16777216 % 256 ∷ v / 65536 % 256 ∷ v / 256 % 256 ∷ low i ∷ [])) ∙ ap (λ (n : ℕ). edit n at v x) (sym e)
 
 -- ---- a value in a line that stands in a longer list
 module _ (w o at : ℕ) (xs : List ℕ) (asks : AsksBytes w o) where

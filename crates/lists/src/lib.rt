@@ -12,11 +12,7 @@ pub fn read_line(list: &[u8], at: usize) -> [u8; 16]
     ensures { result ≡ line_at list.now at }
 {
     let mut line = [0u8; 16];
-    let mut i = 0;
-    while i < 16 {
-        line[i] = list[at + i];
-        i += 1;
-    }
+    line.copy_from_slice(&list[at..at + 16]);
     line
 }
 
@@ -25,11 +21,7 @@ pub fn write_line(list: &mut [u8], at: usize, line: [u8; 16])
     requires { at + 16 ≤ length list.old }
     ensures { list.new ≡ paste_line list.old at line }
 {
-    let mut i = 0;
-    while i < 16 {
-        list[at + i] = line[i];
-        i += 1;
-    }
+    list[at..at + 16].copy_from_slice(&line);
 }
 
 // The value of so many bytes from a byte on, most significant first.
@@ -37,17 +29,13 @@ pub fn read_value(list: &[u8], at: usize, width: u32) -> u32
     requires { AsksValue width at (length list.now) }
     ensures { result ≡ value_at width at list.now }
 {
-    let first = numbers::widen_u8(list[at]);
     if width == 1 {
-        return first;
+        return u32::from(list[at]);
     }
-    let second = numbers::widen_u8(list[at + 1]);
     if width == 2 {
-        return first * 256 + second;
+        return u32::from(u16::from_be_bytes([list[at], list[at + 1]]));
     }
-    let third = numbers::widen_u8(list[at + 2]);
-    let fourth = numbers::widen_u8(list[at + 3]);
-    ((first * 256 + second) * 256 + third) * 256 + fourth
+    u32::from_be_bytes([list[at], list[at + 1], list[at + 2], list[at + 3]])
 }
 
 // Writes a value of so many bytes there.
@@ -60,12 +48,9 @@ pub fn write_value(list: &mut [u8], at: usize, width: u32, value: u32)
         return;
     }
     if width == 2 {
-        list[at + 1] = (value % 256) as u8;
-        list[at] = (value / 256 % 256) as u8;
+        let low = (value % 65536) as u16;
+        list[at..at + 2].copy_from_slice(&low.to_be_bytes());
         return;
     }
-    list[at + 3] = (value % 256) as u8;
-    list[at + 2] = (value / 256 % 256) as u8;
-    list[at + 1] = (value / 65536 % 256) as u8;
-    list[at] = (value / 16777216 % 256) as u8;
+    list[at..at + 4].copy_from_slice(&value.to_be_bytes());
 }

@@ -2,18 +2,19 @@
 // where they lie. `store` has the same calls on a whole state by value, `vcm` exports them.
 #![tactic(auto)]
 
-ghost use Rattle.rules.specs.Call.Answer.{counting};
+ghost use Rattle.std.specs.Result.{result_unwrap_or};
 ghost use Rattle.rules.specs.Call.Look.{COUNTS};
+ghost use Rattle.rules.specs.Refusals.{refusal_in};
 ghost use Rattle.storage.specs.Storage.{memory_of};
 ghost use Rattle.storage.specs.Clauses.{Looks, MarksIn, RollsBackIn, AdvancesIn};
+ghost use Rattle.marks.specs.Counting.{counts_in};
 
-use storage::{Registers, Step};
+use rules::Refusal;
+use storage::Registers;
 
-// The live frames and the pages needed, with the refusal or 0.
-#[repr(C)]
+// The live frames and the pages needed.
 #[derive(Clone, Copy)]
 pub struct Counted {
-    pub refusal: u32,
     pub live: u32,
     pub pages: u32,
 }
@@ -27,19 +28,13 @@ pub fn mark(
     table: &[u16],
     owners: &[u32],
     history: &[u16],
-) -> Step
-    ensures { MarksIn registers (memory_of archive.now pool.now groups.now table.now owners.now history.now) result.refusal result.registers }
+) -> Result<Registers, Refusal>
+    ensures { MarksIn registers (memory_of archive.now pool.now groups.now table.now owners.now history.now) (refusal_in result) (result_unwrap_or result registers) }
 {
     let lengths = storage::measure(archive, pool, groups, table, owners, history);
-    let refusal = storage::admit_mark(registers, lengths);
-    if refusal != 0 {
-        return Step { registers, refusal };
-    }
+    storage::admit_mark(registers, lengths)?;
     registers.cmf = frames::next(registers.frames, registers.cmf);
-    Step {
-        registers,
-        refusal: 0,
-    }
+    Ok(registers)
 }
 
 // ROLLBACK: drops the k newest frames. No written bit is cleared, but for the sweep when the tags run out: the history masks them, and no
@@ -55,15 +50,12 @@ pub fn rollback(
     owners: &[u32],
     history: &mut [u16],
     k: u32,
-) -> Step
-    ensures { RollsBackIn origins.now registers valid.old (memory_of archive.now pool.now groups.old table.now owners.now history.old) k result.refusal result.registers valid.new
+) -> Result<Registers, Refusal>
+    ensures { RollsBackIn origins.now registers valid.old (memory_of archive.now pool.now groups.old table.now owners.now history.old) k (refusal_in result) (result_unwrap_or result registers) valid.new
         (memory_of archive.now pool.now groups.new table.now owners.now history.new) }
 {
     let lengths = storage::measure(archive, pool, groups, table, owners, history);
-    let refusal = storage::admit_frames(registers, lengths, k);
-    if refusal != 0 {
-        return Step { registers, refusal };
-    }
+    storage::admit_frames(registers, lengths, k)?;
     let kept = frames::live(registers.frames, registers.omf, registers.cmf) - k;
     let ring = storage::ring(registers);
     let used = pages::segment::pages_below(owners, ring, kept);
@@ -79,10 +71,7 @@ pub fn rollback(
     registers.cmf = cmf;
     registers.tag = tag;
     registers.used = used;
-    Step {
-        registers,
-        refusal: 0,
-    }
+    Ok(registers)
 }
 
 // ADVANCE: folds the k oldest frames into the archive and frees them. The lines copied are collected from then on.
@@ -96,15 +85,12 @@ pub fn advance(
     owners: &mut [u32],
     history: &mut [u16],
     k: u32,
-) -> Step
-    ensures { AdvancesIn registers origins.old (memory_of archive.old pool.now groups.old table.now owners.old history.old) k result.refusal result.registers origins.new
+) -> Result<Registers, Refusal>
+    ensures { AdvancesIn registers origins.old (memory_of archive.old pool.now groups.old table.now owners.old history.old) k (refusal_in result) (result_unwrap_or result registers) origins.new
         (memory_of archive.new pool.now groups.new table.now owners.new history.new) }
 {
     let lengths = storage::measure(archive, pool, groups, table, owners, history);
-    let refusal = storage::admit_frames(registers, lengths, k);
-    if refusal != 0 {
-        return Step { registers, refusal };
-    }
+    storage::admit_frames(registers, lengths, k)?;
     let ring = storage::ring(registers);
     let gone = versions::fold(archive, pool, groups, owners, history, ring, k);
     versions::clear(groups, owners, ring, gone);
@@ -114,10 +100,7 @@ pub fn advance(
     registers.omf = omf;
     registers.first = pages::segment::nth_page(ring, gone);
     registers.used = ring.used - gone;
-    Step {
-        registers,
-        refusal: 0,
-    }
+    Ok(registers)
 }
 
 // COUNTS: the pages needed are those of the ring.
@@ -129,23 +112,15 @@ pub fn counts(
     table: &[u16],
     owners: &[u32],
     history: &[u16],
-) -> Counted
-    ensures { Looks COUNTS registers (memory_of archive.now pool.now groups.now table.now owners.now history.now) (counting result.refusal result.live result.pages) }
+) -> Result<Counted, Refusal>
+    ensures { Looks COUNTS registers (memory_of archive.now pool.now groups.now table.now owners.now history.now) (counts_in result) }
 {
     let lengths = storage::measure(archive, pool, groups, table, owners, history);
-    let refusal = storage::admit(registers, lengths);
-    if refusal != 0 {
-        return Counted {
-            refusal,
-            live: 0,
-            pages: 0,
-        };
-    }
+    storage::admit(registers, lengths)?;
     let live = frames::live(registers.frames, registers.omf, registers.cmf);
     let ring = storage::ring(registers);
-    Counted {
-        refusal: 0,
+    Ok(Counted {
         live,
         pages: ring.used,
-    }
+    })
 }

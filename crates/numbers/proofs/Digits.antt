@@ -1,5 +1,6 @@
 -- Laws of binary digits. Two carry everything: equal remainders by a power have the same digits below it, equal quotients the same
 -- digits from it on. Assumes nothing.
+use Rattle.std.specs.Prelude.{Some, None}
 use mathlib.Core.Path.{◌≡◌, refl, sym, ◌∙◌, ap, ap₂, subst}
 use mathlib.Core.Bool.{Bool, true, false, ◌&&◌}
 use Prim.Native.Nat.{ℕ, suc, ◌+◌, ◌-◌, ◌*◌, ◌/◌, ◌%◌, ◌^◌, ◌≤◌, ◌<◌}
@@ -12,7 +13,6 @@ use lib.Dec.{eqb, leb}
 use lib.Pow.{pow_pos, pow_mono, pow-add, field, mod-mod-pow, shr-shr, shl_exact}
 use lib.Count.{count_leading_zeros, leading_top}
 use borrow.Author.Tests.{lt-leb, le-leb}
-use Rattle.numbers.specs.declared.Found.TheVariants.{At, Nothing}
 use Rattle.numbers.specs.Digits.{digit, bit, range_of, set_at, unset_at, newest_bit}
 use Rattle.numbers.proofs.Search.{greatest-none, greatest-at}
 
@@ -226,7 +226,7 @@ module _ (x lo hi top low : ℕ) (t : (top ≡ 2 ^ hi) × (0 < top)) (b : (low �
   y-small = rw t.0 (mod-lt x (pow_pos hi))
 
   -- what is left below the low end shows that no digit of the range is set
-  pub newest-none : x % top < low → Nothing ≡ newest_bit x lo hi
+  pub newest-none : x % top < low → None ≡ newest_bit x lo hi
   unfolding newest_bit y
   newest-none h =
       sym (greatest-none hi (λ q. leb lo q && bit x q) (λ q c. go q c (dec_le lo q)))
@@ -247,7 +247,7 @@ module _ (x lo hi top low : ℕ) (t : (top ≡ 2 ^ hi) × (0 < top)) (b : (low �
   pow-order : (i j : ℕ) → 2 ^ i ≤ y → y < 2 ^ j → i < j
   pow-order i j a c = elim (dec_lt i j) [ yes h ↦ h | no h ↦ absurd (omega (arith, pow_mono {i = j} {j = i} (omega arith))) ]
 
-  at_top : (j : ℕ) → 2 ^ j ≤ y → y < 2 ^ suc j → low ≤ y → newest_bit x lo hi ≡ At j
+  at_top : (j : ℕ) → 2 ^ j ≤ y → y < 2 ^ suc j → low ≤ y → newest_bit x lo hi ≡ Some j
   unfolding newest_bit
   at_top j a c h =
       let below : j < hi = pow-order j hi a y-small in
@@ -256,12 +256,12 @@ module _ (x lo hi top low : ℕ) (t : (top ≡ 2 ^ hi) × (0 < top)) (b : (low �
       (ap₂ (λ (u v : Bool). u && v) (le-leb lo j (omega arith)) (bit-one x j (sym (same_digits j below) ∙ top_digit j a c)))
       (λ q d e. both_false (leb lo q) (bit x q) (bit-none x q (sym (same_digits q e) ∙ digit-past y (suc j) q c d)))
 
-  pub newest-at : low ≤ x % top → hi < 32 → At (31 - count_leading_zeros 32 (x % top)) ≡ newest_bit x lo hi
+  pub newest-at : low ≤ x % top → hi < 32 → Some (31 - count_leading_zeros 32 (x % top)) ≡ newest_bit x lo hi
   unfolding y
   newest-at h few =
       let found = leading_top 32 y (omega (arith, b.1)) (omega (arith, y-small, pow_mono {i = hi} {j = 32} (omega arith))) in
       let e : 31 - count_leading_zeros 32 y ≡ found.0 = omega (arith, found.1) in
-      ap At e ∙ sym (at_top found.0 found.2 found.3 h)
+      ap Some e ∙ sym (at_top found.0 found.2 found.3 h)
 
   pub newest-fits : low ≤ x % top → hi < 32 → count_leading_zeros 32 (x % top) ≤ 31
   unfolding y

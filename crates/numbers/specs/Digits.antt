@@ -1,6 +1,5 @@
 -- Written bits as the binary digits of a number, by division and remainder.
-use Rattle.std.specs.Prelude.{ℕ, ◌+◌, ◌*◌, ◌/◌, ◌%◌, ◌^◌, ◌<◌, Bool, ◌&&◌, leb, eqb}
-use Rattle.numbers.specs.declared.Found.{Found}
+use Rattle.std.specs.Prelude.{ℕ, ◌+◌, ◌*◌, ◌/◌, ◌%◌, ◌^◌, ◌<◌, Bool, ◌&&◌, leb, eqb, Option}
 use Rattle.numbers.specs.Search.{greatest}
 
 -- digit q of x, 0 or 1
@@ -24,7 +23,7 @@ unfoldable pub unset_at : (x p : ℕ) → ℕ
 unset_at x p = x / 2 ^ (p + 1) * 2 ^ (p + 1) + x % 2 ^ p
 
 -- The highest set digit of x from lo on and below hi.
-unfoldable pub newest_bit : (x lo hi : ℕ) → Found
+unfoldable pub newest_bit : (x lo hi : ℕ) → Option ℕ
 newest_bit x lo hi = greatest hi (λ q. leb lo q && bit x q)
 
 -- The ends of a range of digits of a 32-bit number.

@@ -6,40 +6,6 @@ ghost use Rattle.std.specs.Prelude.{◌≡◌};
 ghost use Prim.Native.Nat.{◌<◌, ◌^◌};
 ghost use Rattle.numbers.specs.Digits.{Ends, range_of, set_at, newest_bit, bit, unset_at};
 
-// A place that a search finds.
-#[derive(Clone, Copy)]
-pub enum Found {
-    At(u32),
-    Nothing,
-}
-
-// A stored byte, and a stored number, in the type that all arithmetic has.
-pub fn widen_u8(x: u8) -> u32
-    ensures { (result ≡ x) × (result < 256) }
-{
-    x as u32
-}
-
-pub fn widen_u16(x: u16) -> u32
-    ensures { (result ≡ x) × (result < 65536) }
-{
-    x as u32
-}
-
-// The lesser of two numbers.
-pub fn min(a: u32, b: u32) -> u32
-    ensures { result ≡ Prim.Native.Nat.min a b }
-{
-    if a < b { a } else { b }
-}
-
-// a less b, or 0.
-pub fn saturating_sub(a: u32, b: u32) -> u32
-    ensures { result ≡ Prim.Native.Nat.◌-◌ a b }
-{
-    if a < b { 0 } else { a - b }
-}
-
 // What a digit stands for.
 pub fn power_of_two(q: u32) -> u32
     requires { q < 32 }
@@ -86,8 +52,8 @@ pub fn is_set(x: u32, p: u32) -> bool
     x / power_of_two(p) % 2 == 1
 }
 
-// The highest set digit of x from lo on and below hi, by the leading zeros of what is left of x.
-pub fn newest_bit(x: u32, lo: u32, hi: u32) -> Found
+// The highest set digit of x from lo on and below hi, if one is set, by the leading zeros of what is left of x.
+pub fn newest_bit(x: u32, lo: u32, hi: u32) -> Option<u32>
     requires { Ends lo hi }
     ensures { result ≡ newest_bit x lo hi }
 {
@@ -95,7 +61,7 @@ pub fn newest_bit(x: u32, lo: u32, hi: u32) -> Found
     let low = power_of_two(lo);
     let y = x % top;
     if y < low {
-        return Found::Nothing;
+        return None;
     }
-    Found::At(31 - u32::leading_zeros(y))
+    Some(31 - u32::leading_zeros(y))
 }

@@ -1,20 +1,18 @@
 -- Places and lines: a place is needed just if one of its lines has an effective bit. Assumes nothing.
 use mathlib.Core.Path.{◌≡◌, refl, ◌∙◌, ap, ap₂}
 use mathlib.Core.Bool.{Bool, true, false, ◌&&◌}
-use mathlib.Core.List.{List}
 use Prim.Native.Nat.{ℕ, ◌+◌, ◌*◌, ◌/◌, ◌%◌, ◌≤◌, ◌<◌}
 use native.Mathlib.Nat.{mul-le-mul}
 use native.Mathlib.Omega.{arith}
 use borrow.Author.Tests.{ltb-true, lt-ltb}
 use lib.Dec.{ltb}
-use lib.ListN.{get_or}
 use Rattle.rules.specs.Seen.{needs}
 use Rattle.rules.proofs.Count.{any_found, any-true}
 use Rattle.rules.proofs.Tests.{both_true}
 use Rattle.frames.specs.Circle.{frame_at, index_of}
 use Rattle.frames.proofs.Circle.{index-frame}
 use Rattle.written.specs.Bits.{Written, effective}
-use Rattle.pages.specs.Table.{blocks_of, place_at, entry_at, needed_at}
+use Rattle.pages.specs.Table.{blocks_of, place_at, needed_at}
 
 -- the frame and the block of a place
 pub place-frame : (f b : ℕ) → b < 512 → place_at f b / 512 ≡ f
@@ -26,11 +24,6 @@ place-block f b c = omega arith
 -- the entries of the table are few
 pub entries-few : (lines frames : ℕ) → lines ≤ 4096 → frames ≤ 4096 → frames * (lines / 8) ≤ 2097152
 entries-few lines frames a b = mul-le-mul {n₁ = frames} {m₁ = lines / 8} {n₂ = 4096} {m₂ = 512} b (omega arith)
-
--- what the table has, in the form in which the code finds it
-pub entry-told : (table : List ℕ) (lines frame block place r : ℕ) → place ≡ entry_at lines frame block → (r ≡ get_or table place 0) × (r < 65536)
-    → (r ≡ get_or table (entry_at lines frame block) 0) × (r < 65536)
-entry-told table lines frame block place r e (h, b) = (h ∙ ap (λ (x : ℕ). get_or table x 0) e, b)
 
 -- a block of lines has a written line, and a written line's block is needed
 needs-line : (row : ℕ → Bool) (b : ℕ) → needs row b ≡ true → (l : ℕ) × (l / 8 ≡ b) × (row l ≡ true)

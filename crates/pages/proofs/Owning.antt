@@ -1,4 +1,5 @@
 -- Whose a page is, and which is given out next, in the form in which the code has it. Assumes nothing.
+use Rattle.std.specs.Prelude.{Some, None}
 use mathlib.Core.Path.{◌≡◌, sym, ◌∙◌, ap, ap₂}
 use mathlib.Core.Bool.{Bool, true, false, cond, ◌&&◌}
 use mathlib.Core.List.{List}
@@ -10,7 +11,6 @@ use lib.Dec.{ltb, eqb}
 use lib.ListN.{get_or}
 use Rattle.rules.proofs.Tests.{both_true}
 use Rattle.frames.specs.Circle.{index_of, frame_at}
-use Rattle.numbers.specs.declared.Found.TheVariants.{At, Nothing}
 use Rattle.pages.specs.Ring.{nth_page, position_of, owns, next_page}
 
 module _ (pages first used : ℕ) (owners : List ℕ) (page place : ℕ) where
@@ -57,10 +57,10 @@ page-round pages first i h b c =
     sym (ap (λ (n : ℕ). (first + n) % pages) all ∙ (add-mod_right first pages ∙ mod-eq_of_lt h))
 
 module _ (pages first used : ℕ) where
-  pub next-some : (p : ℕ) → used < pages → p ≡ frame_at pages first used → At p ≡ next_page pages first used
+  pub next-some : (p : ℕ) → used < pages → p ≡ frame_at pages first used → Some p ≡ next_page pages first used
   unfolding next_page
-  next-some p b e = ap At e ∙ sym (ap (λ (t : Bool). cond t (At (nth_page pages first used)) Nothing) (lt-ltb used pages b))
+  next-some p b e = ap Some e ∙ sym (ap (λ (t : Bool). cond t (Some (nth_page pages first used)) None) (lt-ltb used pages b))
 
-  pub next-none : pages ≤ used → Nothing ≡ next_page pages first used
+  pub next-none : pages ≤ used → None ≡ next_page pages first used
   unfolding next_page
-  next-none b = sym (ap (λ (t : Bool). cond t (At (nth_page pages first used)) Nothing) (le-ltb used pages b))
+  next-none b = sym (ap (λ (t : Bool). cond t (Some (nth_page pages first used)) None) (le-ltb used pages b))

@@ -3,7 +3,7 @@
 use mathlib.Core.Path.{◌≡◌, sym, ◌∙◌, ap, ap₂}
 use mathlib.Core.Logic.{◌⊎◌, inl, inr, ⊎_elim, ◌≢◌}
 use mathlib.Core.List.{List, ◌++◌}
-use Prim.Native.Nat.{ℕ, ◌+◌, ◌*◌, ◌-◌, ◌/◌, ◌%◌, ◌≤◌, ◌<◌}
+use Prim.Native.Nat.{ℕ, ◌+◌, ◌*◌, ◌-◌, ◌≤◌, ◌<◌}
 use native.Mathlib.Omega.{arith}
 use borrow.Rule.Slice.PartMut.{mid_of, post_of, put_mid, mid_len}
 use lib.ListN.{length, take, drop, take-append-drop}
@@ -51,16 +51,6 @@ module _ (pool : List ℕ) (page slot : ℕ) (asks : AsksPage page slot (length 
   part-lent =
       let n : 128 * page + 16 * slot + 16 - (128 * page + 16 * slot) ≡ 16 = omega arith in
       ap (λ (k : ℕ). take k (drop (128 * page + 16 * slot) pool)) n
-
-archive-place : (line : ℕ) → 128 * (line / 8) + 16 * (line % 8) ≡ 16 * line
-archive-place line = omega arith
-
-module _ (archive : List ℕ) (line : ℕ) (r : List ℕ) where
-  pub archive-read : r ≡ page_line archive (line / 8) (line % 8) → r ≡ archive_line archive line
-  archive-read e = e ∙ ap (line_at archive) (archive-place line)
-
-  pub archive-written : (x : List ℕ) → r ≡ with_page_line archive (line / 8) (line % 8) x → r ≡ with_archive_line archive line x
-  archive-written x e = e ∙ ap (λ (n : ℕ). paste_line archive n x) (archive-place line)
 
 -- ---- every other line of the archive and of the pool is as it was
 pub archive-other : (archive x : List ℕ) (m n : ℕ) → 16 * m + 16 ≤ length archive → length x ≡ 16 → n ≢ m

@@ -1,9 +1,7 @@
 -- Pages in a ring. A page is given out to CMF only, and frames die only at the two ends, so the needed pages are one segment of the pool's
 -- circle, in the order of their frames' indexes.
-use Rattle.std.specs.Prelude.{ℕ, ◌/◌, ◌≤◌, ◌<◌, ◌≡◌, Bool, true, cond, ◌&&◌, List, ltb, eqb, get_or}
+use Rattle.std.specs.Prelude.{ℕ, ◌/◌, ◌≤◌, ◌<◌, ◌≡◌, Bool, true, cond, ◌&&◌, List, ltb, eqb, get_or, Option, Some, None}
 use Rattle.frames.specs.Circle.{index_of, frame_at}
-use Rattle.numbers.specs.declared.Found.{Found}
-use Rattle.numbers.specs.declared.Found.TheVariants.{At, Nothing}
 use Rattle.written.specs.Bits.{Written}
 use Rattle.pages.specs.Table.{places_of, entry_of, needed_at}
 
@@ -57,8 +55,8 @@ owns pages first used owners page place =
     ltb page pages && (ltb (position_of pages first page) used && eqb (get_or owners page 0) place)
 
 -- The page that is given out: the one behind the segment, if that does not go all round.
-unfoldable pub next_page : (pages first used : ℕ) → Found
-next_page pages first used = cond (ltb used pages) (At (nth_page pages first used)) Nothing
+unfoldable pub next_page : (pages first used : ℕ) → Option ℕ
+next_page pages first used = cond (ltb used pages) (Some (nth_page pages first used)) None
 
 -- r parts the first n numbers into those below a limit and the others.
 pub record Splits (n : ℕ) (f : ℕ → ℕ) (limit r : ℕ) : Type 0 where

@@ -26,10 +26,7 @@ pub fn clear(owners: &mut [u32], pages: u32, lines: u32)
     requires { (pages ≤ 4096) × (lines ≤ 4096) × (pages + lines ≤ length owners.old) }
     ensures { owners.new ≡ unflagged pages lines owners.old }
 {
-    let mut line = 0;
-    while line < lines {
-        let at = (pages + line) as usize;
-        owners[at] = 0;
-        line = line + 1;
-    }
+    let first = pages as usize;
+    let behind = (pages + lines) as usize;
+    owners[first..behind].fill(0);
 }

@@ -4,7 +4,6 @@ ghost use Rattle.std.specs.Prelude.{◌≡◌, ◌≤◌, ◌<◌, length};
 ghost use Rattle.pages.specs.Ring.{nth_page, owner_index, index_at, owns, next_page, AsksRing, Leading};
 
 use crate::Ring;
-use numbers::Found;
 use written::Shape;
 
 // The index from OMF of an owner's frame. An owner of no frame counts as high.
@@ -26,6 +25,7 @@ pub fn pages_below(owners: &[u32], ring: Ring, limit: u32) -> u32
 {
     let mut low = 0;
     let mut high = ring.used;
+    // A while: std's `partition_point` halves a slice, and the pages in the circle's order are none.
     while low < high {
         let middle = (low + high) / 2;
         let page = frames::frame_at(ring.pages, ring.first, middle) as usize;
@@ -43,13 +43,9 @@ pub fn is_own(owners: &[u32], ring: Ring, page: u32, place: u32) -> bool
     requires { AsksRing ring.pages ring.first ring.used ring.shape.frames ring.shape.omf (length owners.now) }
     ensures { result ≡ owns ring.pages ring.first ring.used owners.now page place }
 {
-    if ring.pages <= page {
-        return false;
-    }
-    if ring.used <= frames::index(ring.pages, ring.first, page) {
-        return false;
-    }
-    owners[page as usize] == place
+    page < ring.pages
+        && frames::index(ring.pages, ring.first, page) < ring.used
+        && owners[page as usize] == place
 }
 
 // The page at a position, counted from the oldest page; all round the circle that is the oldest again.
@@ -64,12 +60,12 @@ pub fn nth_page(ring: Ring, i: u32) -> u32
 }
 
 // The page behind the segment, if one is left.
-pub fn next_page(ring: Ring) -> Found
+pub fn next_page(ring: Ring) -> Option<u32>
     requires { (ring.first < ring.pages) × (ring.pages ≤ 4096) }
     ensures { result ≡ next_page ring.pages ring.first ring.used }
 {
     if ring.used < ring.pages {
-        return Found::At(frames::frame_at(ring.pages, ring.first, ring.used));
+        return Some(frames::frame_at(ring.pages, ring.first, ring.used));
     }
-    Found::Nothing
+    None
 }

@@ -11,8 +11,7 @@ fn entry_at(shape: Shape, frame: u32, block: u32) -> usize
     requires { (shape.lines ≤ 4096) × (frame ≤ 4096) × (block ≤ 4096) }
     ensures { result ≡ entry_at shape.lines frame block }
 {
-    let lines = shape.lines;
-    (frame * (lines / 8) + block) as usize
+    (frame * (shape.lines / 8) + block) as usize
 }
 
 // The page that it has there.
@@ -21,7 +20,7 @@ pub fn page_at(table: &[u16], shape: Shape, frame: u32, block: u32) -> u32
     ensures { (result ≡ get_or table.now (entry_at shape.lines frame block) 0) × (result < 65536) }
 {
     let at = entry_at(shape, frame, block);
-    numbers::widen_u16(table[at])
+    u32::from(table[at])
 }
 
 // Gives a page to a frame and block.

@@ -1,7 +1,6 @@
 -- A line that is no record gets 1 or 2. Assumes nothing.
 use mathlib.Core.Path.{◌≡◌, subst}
 use mathlib.Core.Bool.{Bool, true, false, cond}
-use mathlib.Core.Option.{Option, none, some}
 use mathlib.Core.List.{List, [], ◌∷◌}
 use Prim.Native.Nat.{ℕ, ◌≤◌}
 use native.Mathlib.Omega.{arith}
@@ -9,8 +8,8 @@ use lib.Dec.{leb}
 use lib.ListN.{length}
 use Rattle.text.specs.Parts.{Text, fields_of}
 use Rattle.text.specs.Lines.{limit}
-use Rattle.records.specs.declared.Known.{Known}
-use Rattle.records.specs.declared.Known.TheVariants.{Named, Unknown}
+use Rattle.std.specs.Prelude.{Option, Some, None}
+use Rattle.records.specs.declared.Word.{Word}
 use Rattle.records.specs.Records.{Asked, rows, word_in, numbers_in, asked, with_numbers, record_in, parsed}
 use Rattle.records.specs.Records.Asked.{asks, turned_down}
 
@@ -22,13 +21,13 @@ low : (line : Text) → Low (parsed line)
 unfolding parsed record_in with_numbers asked
 low line = go (leb (length line) limit) (fields_of line)
   where
-    known : (k : Known) (ns : List ℕ) → Low (asked k ns)
-    known (Named w) ns = tt
-    known Unknown ns = omega arith
+    known : (k : Option Word) (ns : List ℕ) → Low (asked k ns)
+    known (Some w) ns = tt
+    known None ns = omega arith
 
     numbers : (word : Text) (o : Option (List ℕ)) → Low (with_numbers word o)
-    numbers word none = omega arith
-    numbers word (some ns) = known (word_in rows word (length ns)) ns
+    numbers word None = omega arith
+    numbers word (Some ns) = known (word_in rows word (length ns)) ns
 
     go : (b : Bool) (fields : List Text) → Low (cond b (record_in fields) (turned_down 1))
     go true [] = omega arith

@@ -1,15 +1,10 @@
 -- The records of a session. Quotations are of document 01.
-use Rattle.std.specs.Prelude.{ℕ, Bool, true, false, cond, ◌&&◌, List, [], ◌∷◌, leb, eqb, length}
-use Rattle.std.proofs.Math.Option.{Option, none, some}
+use Rattle.std.specs.Prelude.{ℕ, Bool, true, false, cond, ◌&&◌, List, [], ◌∷◌, leb, eqb, length, Option, Some, None}
 use Rattle.text.specs.Parts.{Text, fields_of}
 use Rattle.text.specs.Numbers.{field_number}
 use Rattle.text.specs.Lines.{limit}
-use Rattle.text.specs.declared.Number.{Number}
-use Rattle.text.specs.declared.Number.TheVariants.{Is, Not}
 use Rattle.records.specs.declared.Word.{Word}
 use Rattle.records.specs.declared.Word.TheVariants.{Reset, Read, Write, Mark, Back, Advance, Counts}
-use Rattle.records.specs.declared.Known.{Known}
-use Rattle.records.specs.declared.Known.TheVariants.{Named, Unknown}
 
 -- What a line says: a record, which is a word and its numbers, or why the line is turned down.
 pub data Asked : Type 0 where
@@ -51,31 +46,31 @@ rows =
     ∷ seldom
 
 -- The word of the row that is spelt so, if it takes so many numbers.
-unfoldable pub taken : (takes : Bool) → Word → Known
-taken takes w = cond takes (Named w) Unknown
+unfoldable pub taken : (takes : Bool) → Word → Option Word
+taken takes w = cond takes (Some w) None
 
-unfoldable pub word_in : List Row → (field : Text) → (count : ℕ) → Known
-word_in [] field count = Unknown
+unfoldable pub word_in : List Row → (field : Text) → (count : ℕ) → Option Word
+word_in [] field count = None
 word_in (r ∷ rs) field count = cond (same_text field r.spelt) (taken (r.takes count) r.word) (word_in rs field count)
 
 -- The numbers that fields say, if each of them says one.
-unfoldable pub followed : Number → Option (List ℕ) → Option (List ℕ)
-followed Not later = none
-followed (Is n) none = none
-followed (Is n) (some ns) = some (n ∷ ns)
+unfoldable pub followed : Option ℕ → Option (List ℕ) → Option (List ℕ)
+followed None later = None
+followed (Some n) None = None
+followed (Some n) (Some ns) = Some (n ∷ ns)
 
 unfoldable pub numbers_in : List Text → Option (List ℕ)
-numbers_in [] = some []
+numbers_in [] = Some []
 numbers_in (field ∷ fields) = followed (field_number field) (numbers_in fields)
 
 -- 2: "The session line is not one of the records".
-unfoldable pub asked : Known → List ℕ → Asked
-asked (Named w) ns = asks w ns
-asked Unknown ns = turned_down 2
+unfoldable pub asked : Option Word → List ℕ → Asked
+asked (Some w) ns = asks w ns
+asked None ns = turned_down 2
 
 unfoldable pub with_numbers : (word : Text) → Option (List ℕ) → Asked
-with_numbers word none = turned_down 2
-with_numbers word (some ns) = asked (word_in rows word (length ns)) ns
+with_numbers word None = turned_down 2
+with_numbers word (Some ns) = asked (word_in rows word (length ns)) ns
 
 -- A word and its numbers. (A line has at least one field.)
 unfoldable pub record_in : List Text → Asked

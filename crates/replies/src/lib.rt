@@ -4,15 +4,18 @@
 ghost use Rattle.std.specs.Prelude.{◌≡◌, ◌∷◌, ◌+◌, ◌≤◌, length};
 ghost use Rattle.text.specs.Numbers.{decimal};
 ghost use Rattle.text.specs.Output.{Puts};
+ghost use Rattle.std.specs.Result.{result_unwrap_or};
 ghost use Rattle.rules.specs.Call.Answer.{outcome};
+ghost use Rattle.rules.specs.Refusals.{refusal_in};
 ghost use Rattle.records.specs.Shown.{numbers_of};
-ghost use Rattle.store.specs.Shown.{shown_origin, lent_of, kept, Promises};
+ghost use Rattle.store.specs.Shown.{shown_origin, kept, Promises};
+ghost use Rattle.store.specs.Memory.{lent_in, SamePieces};
 ghost use Rattle.replies.specs.Calls.{call_of};
 ghost use Rattle.replies.specs.Answers.{origin_text, values_text, answer_line, end_line, longest, longest_end};
 ghost use Rattle.replies.specs.Lines.{answer_of};
 
 use records::{Record, Word};
-use store::{Origin, Outcome, State};
+use store::{Memory, Origin, Refusal, State};
 
 // What stands behind `ok`.
 #[derive(Clone, Copy)]
@@ -94,7 +97,8 @@ pub fn put_end(out: &mut [u8], at: usize, oks: u64, noes: u64) -> usize
     text::put(out, second, b"\n")
 }
 
-// What a call gave: the state, the refusal or 0, and what an answer line shows of it.
+// What a call gave: the state, the refusal or 0, and what an answer line shows of it. The number stands beside the values, and in no Result with
+// them: a refused READ or COUNTS has its values too, nought and the archive, and `Promises` names them.
 #[derive(Clone, Copy)]
 pub struct Reply {
     pub state: State,
@@ -102,73 +106,85 @@ pub struct Reply {
     pub shown: Shown,
 }
 
-// What a call that gives a refusal or 0 alone gave.
-fn outcome_reply(done: Outcome) -> Reply
-    ensures { (result.state ≡ done.state) × (answer_of result.refusal result.shown ≡ outcome done.refusal) }
+// What a call gave that gives the state alone, or is refused.
+fn outcome_reply(before: State, done: Result<State, Refusal>) -> Reply
+    ensures { (result.state ≡ result_unwrap_or done before) × (answer_of result.refusal result.shown ≡ outcome (refusal_in done)) }
 {
-    let state = done.state;
     Reply {
-        state,
-        refusal: done.refusal,
+        state: done.unwrap_or(before),
+        refusal: store::refusal_number(&done),
         shown: Shown::Nothing,
     }
 }
 
 // The call that a record asks for.
-pub fn call(
-    state: State,
-    archive: &mut [u8],
-    pool: &mut [u8],
-    groups: &mut [u32],
-    table: &mut [u16],
-    owners: &mut [u32],
-    history: &mut [u16],
-    asked: Record,
-) -> Reply
-    ensures { Promises (call_of asked.word (numbers_of asked))
-        (kept state (lent_of archive.old pool.old groups.old table.old owners.old history.old))
+pub fn call(state: State, memory: &mut Memory, asked: Record) -> Reply
+    ensures pieces { SamePieces memory.old memory.new }
+    ensures promise { Promises (call_of asked.word (numbers_of asked))
+        (kept state (lent_in memory.old))
         (answer_of result.refusal result.shown)
-        (kept result.state (lent_of archive.new pool.new groups.new table.new owners.new history.new)) }
+        (kept result.state (lent_in memory.new)) }
 {
+    let archive = &mut *memory.archive;
+    let pool = &mut *memory.pool;
+    let groups = &mut *memory.groups;
+    let table = &mut *memory.table;
+    let owners = &mut *memory.owners;
+    let history = &mut *memory.history;
     let first = records::number(asked, 0);
     let second = records::number(asked, 1);
     let third = records::number(asked, 2);
     let word = asked.word;
     match word {
-        Word::Reset => outcome_reply(store::reset(
-            state, archive, pool, groups, table, owners, history, first, second, third,
-        )),
-        Word::Read => {
-            let got = store::read(
-                state, archive, pool, groups, table, owners, history, first, second,
-            );
-            let state = got.state;
-            let origin = got.origin;
-            Reply {
+        Word::Reset => outcome_reply(
+            state,
+            store::reset(
+                state, archive, pool, groups, table, owners, history, first, second, third,
+            ),
+        ),
+        Word::Read => match store::read(
+            state, archive, pool, groups, table, owners, history, first, second,
+        ) {
+            Ok(got) => Reply {
+                state: got.state,
+                refusal: 0,
+                shown: Shown::Read(got.value, got.origin),
+            },
+            Err(refusal) => Reply {
                 state,
-                refusal: got.refusal,
-                shown: Shown::Read(got.value, origin),
-            }
-        }
-        Word::Write => outcome_reply(store::write(
-            state, archive, pool, groups, table, owners, history, first, second, third,
-        )),
-        Word::Mark => outcome_reply(store::mark(
-            state, archive, pool, groups, table, owners, history,
-        )),
-        Word::Back => outcome_reply(store::rollback(
-            state, archive, pool, groups, table, owners, history, first,
-        )),
-        Word::Advance => outcome_reply(store::advance(
-            state, archive, pool, groups, table, owners, history, first,
-        )),
-        Word::Counts => {
-            let got = store::counts(state, archive, pool, groups, table, owners, history);
-            Reply {
+                refusal: u32::from(refusal),
+                shown: Shown::Read(0, Origin::Archive),
+            },
+        },
+        Word::Write => outcome_reply(
+            state,
+            store::write(
+                state, archive, pool, groups, table, owners, history, first, second, third,
+            ),
+        ),
+        Word::Mark => outcome_reply(
+            state,
+            store::mark(state, archive, pool, groups, table, owners, history),
+        ),
+        Word::Back => outcome_reply(
+            state,
+            store::rollback(state, archive, pool, groups, table, owners, history, first),
+        ),
+        Word::Advance => outcome_reply(
+            state,
+            store::advance(state, archive, pool, groups, table, owners, history, first),
+        ),
+        Word::Counts => match store::counts(state, archive, pool, groups, table, owners, history) {
+            Ok(got) => Reply {
                 state,
-                refusal: got.refusal,
+                refusal: 0,
                 shown: Shown::Counts(got.live, got.pages),
-            }
-        }
+            },
+            Err(refusal) => Reply {
+                state,
+                refusal: u32::from(refusal),
+                shown: Shown::Counts(0, 0),
+            },
+        },
     }
 }

@@ -1,6 +1,7 @@
 pub mod Cases
 pub mod Tests
 pub mod Chain
+pub mod Refusals
 pub mod Settings
 pub mod Line
 pub mod Width

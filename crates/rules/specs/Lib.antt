@@ -7,6 +7,7 @@ pub mod Seen
 pub mod Decimal
 pub mod Map
 pub mod Refusal
+pub mod Refusals
 pub mod Figure3
 pub mod Plain
 pub mod Figure2

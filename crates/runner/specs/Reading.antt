@@ -1,5 +1,5 @@
 -- What the program has fed to the session. What it writes no contract can say.
-use Rattle.std.specs.Prelude.{◌≡◌, Bool, true, false, []}
+use Rattle.std.specs.Prelude.{◌≡◌, [], Option, Result, IfOk, IfSome, MatchOption}
 use Rattle.text.specs.Parts.{Text}
 use Rattle.store.specs.Shown.{Lent, lengths_of}
 use Rattle.session.specs.declared.Runner.{Runner}
@@ -7,21 +7,17 @@ use Rattle.session.specs.Transcript.{beginning}
 use Rattle.session.specs.Running.{StandsFor, Feeds}
 
 -- A chunk answered: if all went well, every byte of it was fed, and there may be more.
-pub record AnswersChunk (r : Runner) (before : Lent) (chunk : Text) (s : Runner) (after : Lent) (more ok : Bool) : Type 0 where
+pub record AnswersChunk {E : Type 0} (r : Runner) (before : Lent) (chunk : Text) (result : Result Runner E) (after : Lent) : Type 0 where
   pub lengths : lengths_of after ≡ lengths_of before
-  pub more_is : more ≡ ok
-  pub fed : ok ≡ true → (said : Text) × Feeds r before chunk said s after
+  pub fed : IfOk result (λ s. (said : Text) × Feeds r before chunk said s after)
 
--- A read: if there may be more, all went well and some input was fed whole (none, if it was interrupted); that it is what came is read in
--- the code. At the end of input runner and lent memory are as they were.
-pub record Reads (r : Runner) (before : Lent) (s : Runner) (after : Lent) (more ok : Bool) : Type 0 where
+-- A read that went well: if there may be more, some input was fed whole (none, if it was interrupted); that it is what came is read in the code. At
+-- the end of input there is no other runner, and lent memory is as it was.
+pub record Reads {E : Type 0} (r : Runner) (before : Lent) (result : Result (Option Runner) E) (after : Lent) : Type 0 where
   pub lengths : lengths_of after ≡ lengths_of before
-  pub well : more ≡ true → ok ≡ true
-  pub fed : more ≡ true → (input : Text) × (said : Text) × Feeds r before input said s after
-  pub ended : ok ≡ true → more ≡ false → (s ≡ r) × (after ≡ before)
+  pub went : IfOk result (λ more. MatchOption more (after ≡ before) (λ s. (input : Text) × (said : Text) × Feeds r before input said s after))
 
--- All reads: there is no more, and if all went well, an input was fed to a runner that starts.
-pub record ReadsAll (before : Lent) (s : Runner) (after : Lent) (more ok : Bool) : Type 0 where
+-- All reads: if they went well, to the end of input, an input was fed to a runner that starts.
+pub record ReadsAll {E : Type 0} (before : Lent) (result : Result (Option Runner) E) (after : Lent) : Type 0 where
   pub lengths : lengths_of after ≡ lengths_of before
-  pub no_more : more ≡ false
-  pub fed : ok ≡ true → (r : Runner) × StandsFor r before beginning [] × (input : Text) × (said : Text) × Feeds r before input said s after
+  pub fed : IfOk result (λ end. IfSome end (λ s. (r : Runner) × StandsFor r before beginning [] × (input : Text) × (said : Text) × Feeds r before input said s after))

@@ -4,39 +4,36 @@
 
 ghost use Rattle.std.specs.Prelude.{◌≡◌, ◌≤◌, length};
 ghost use Rattle.std.specs.Io.{ReadsAtMost};
-ghost use Rattle.store.specs.Shown.{lent_of, lent_lengths};
+ghost use Rattle.store.specs.Shown.{lengths_of};
+ghost use Rattle.store.specs.Memory.{lent_in, SamePieces};
 ghost use Rattle.replies.specs.Answers.{longest};
 ghost use Rattle.session.specs.Transcript.{runner_lent};
 ghost use Rattle.runner.specs.Reading.{AnswersChunk, Reads, ReadsAll};
 
 use session::Runner;
-use std::io;
 use std::io::{ErrorKind, Read as _};
+use std::{fmt, io};
+use store::Memory;
 
-// The runner after a read, whether to go on, and whether all went well.
-#[derive(Clone, Copy)]
-struct Read {
-    runner: Runner,
-    more: bool,
-    ok: bool,
+// What ends a session before its end.
+#[derive(Drop)]
+enum Failure {
+    Read(io::Error),
+    Write(io::Error),
 }
 
-// Writes the first bytes of the output buffer; a write that fails is told on standard error.
-fn write_out(rt: &(impl Print + Eprint), out: &[u8], filled: usize) -> bool
-    requires { filled ≤ length out.now }
-{
-    match rt.write_all(&out[..filled]) {
-        Ok(()) => true,
-        Err(error) => {
-            tell(rt, "write", error);
-            false
+impl fmt::Display for Failure {
+    fn fmt<W: fmt::Write>(&self, f: &mut fmt::Formatter<W>) -> fmt::Result {
+        match self {
+            Failure::Read(error) => write!(f, "read: {error}"),
+            Failure::Write(error) => write!(f, "write: {error}"),
         }
     }
 }
 
-// Tells on standard error what failed; there is no other place to tell that this failed too.
-fn tell(rt: &impl Eprint, what: &str, error: io::Error) {
-    let _ = rt.eprintln(format_args!("session: {what}: {error}"));
+// Writes some output.
+fn write_out(rt: &impl Print, out: &[u8]) -> Result<(), Failure> {
+    rt.write_all(out).map_err(Failure::Write)
 }
 
 // Reads once.
@@ -46,181 +43,110 @@ fn read_chunk(rt: &impl Input, input: &mut [u8]) -> io::Result<usize>
     rt.reader().read(input)
 }
 
-// Answers the lines that end in a chunk.
+// Answers the lines that end in a chunk: the runner after it.
 fn answer_chunk(
-    rt: &(impl Print + Eprint),
-    runner: Runner,
-    archive: &mut [u8],
-    pool: &mut [u8],
-    groups: &mut [u32],
-    table: &mut [u16],
-    owners: &mut [u32],
-    history: &mut [u16],
+    rt: &impl Print,
+    before: Runner,
+    memory: &mut Memory,
     chunk: &[u8],
     out: &mut [u8],
-) -> Read
+) -> Result<Runner, Failure>
     requires { longest ≤ length out.old }
-    ensures { AnswersChunk runner (lent_of archive.old pool.old groups.old table.old owners.old history.old) chunk.now result.runner (lent_of archive.new pool.new groups.new table.new owners.new history.new) result.more result.ok }
+    ensures pieces { SamePieces memory.old memory.new }
+    ensures answers { AnswersChunk before (lent_in memory.old) chunk.now result (lent_in memory.new) }
 {
-    let count = chunk.len();
-    let mut current = runner;
-    let mut from = 0;
-    while from < count {
-        let told = session::feed(
-            current,
-            archive,
-            pool,
-            groups,
-            table,
-            owners,
-            history,
-            &chunk[from..],
-            out,
-        );
-        current = told.runner;
-        from = from + told.used;
-        if !write_out(rt, out, told.filled) {
-            return Read {
-                runner: current,
-                more: false,
-                ok: false,
-            };
-        }
+    let mut runner = before;
+    let mut rest = chunk;
+    while !rest.is_empty() {
+        let told = session::feed(runner, memory, rest, out);
+        write_out(rt, &out[..told.filled])?;
+        runner = told.runner;
+        rest = &rest[told.used..];
     }
-    Read {
-        runner: current,
-        more: true,
-        ok: true,
-    }
+    Ok(runner)
 }
 
-// Reads once and answers the lines that end in what came. After the end of input or a failed read there is no more; a read that a signal
-// interrupted is tried again.
+// Reads once and answers the lines that end in what came: the runner after it, or none at the end of input. A read that a signal interrupted is
+// tried again.
 fn read_some(
-    rt: &(impl Input + Print + Eprint),
+    rt: &(impl Input + Print),
     runner: Runner,
-    archive: &mut [u8],
-    pool: &mut [u8],
-    groups: &mut [u32],
-    table: &mut [u16],
-    owners: &mut [u32],
-    history: &mut [u16],
+    memory: &mut Memory,
     out: &mut [u8],
-) -> Read
+) -> Result<Option<Runner>, Failure>
     requires { longest ≤ length out.old }
-    ensures { Reads runner (lent_of archive.old pool.old groups.old table.old owners.old history.old) result.runner (lent_of archive.new pool.new groups.new table.new owners.new history.new) result.more result.ok }
+    ensures pieces { SamePieces memory.old memory.new }
+    ensures reads { Reads runner (lent_in memory.old) result (lent_in memory.new) }
 {
     let mut input = [0u8; 65536];
     let n = match read_chunk(rt, &mut input) {
         Ok(n) => n,
         Err(error) => {
             if error.kind() == ErrorKind::Interrupted {
-                return Read {
-                    runner,
-                    more: true,
-                    ok: true,
-                };
+                return Ok(Some(runner));
             }
-            tell(rt, "read", error);
-            return Read {
-                runner,
-                more: false,
-                ok: false,
-            };
+            return Err(Failure::Read(error));
         }
     };
     if n == 0 {
-        return Read {
-            runner,
-            more: false,
-            ok: true,
-        };
+        return Ok(None);
     }
-    answer_chunk(
-        rt,
-        runner,
-        archive,
-        pool,
-        groups,
-        table,
-        owners,
-        history,
-        &input[..n],
-        out,
-    )
+    let chunk = &input[..n];
+    let behind = answer_chunk(rt, runner, memory, chunk, out)?;
+    Ok(Some(behind))
 }
 
-// AnswersChunk the input to its end or to a failure. A proved loop has to end, and nothing says that the input does: so the reads are counted down
-// from a number that no run uses up.
+// Answers the input to its end: the runner then. A proved loop has to end, and nothing says that the input does: so the reads are counted, and
+// there is none after a number of them that no run reaches.
 fn read_all(
-    rt: &(impl Input + Print + Eprint),
-    archive: &mut [u8],
-    pool: &mut [u8],
-    groups: &mut [u32],
-    table: &mut [u16],
-    owners: &mut [u32],
-    history: &mut [u16],
+    rt: &(impl Input + Print),
+    memory: &mut Memory,
     out: &mut [u8],
-) -> Read
+) -> Result<Option<Runner>, Failure>
     requires { (longest ≤ length out.old)
-        × (lent_lengths archive.old pool.old groups.old table.old owners.old history.old ≡ runner_lent) }
-    ensures { ReadsAll (lent_of archive.old pool.old groups.old table.old owners.old history.old) result.runner (lent_of archive.new pool.new groups.new table.new owners.new history.new) result.more result.ok }
+        × (lengths_of (lent_in memory.old) ≡ runner_lent) }
+    ensures pieces { SamePieces memory.old memory.new }
+    ensures reads { ReadsAll (lent_in memory.old) result (lent_in memory.new) }
 {
     let mut runner = session::start();
-    let mut turns = u64::MAX;
-    while turns > 0 {
-        let read = read_some(
-            rt, runner, archive, pool, groups, table, owners, history, out,
-        );
-        runner = read.runner;
-        if !read.more {
-            return Read {
-                runner,
-                more: false,
-                ok: read.ok,
-            };
+    for _ in 0..u64::MAX {
+        let read = read_some(rt, runner, memory, out);
+        match read {
+            Ok(Some(after)) => runner = after,
+            Ok(None) => return Ok(Some(runner)),
+            Err(failure) => return Err(failure),
         }
-        turns = turns - 1;
     }
-    Read {
-        runner,
-        more: false,
-        ok: false,
-    }
+    Ok(None)
 }
 
 // Memory for L = 512, F = 256 and P = 256: 16 × L bytes, 128 × P bytes, F / 16 × L groups, F × L / 8 entries, P owners with L flags and 256 tags.
-fn main(rt: HostRuntime) {
+fn run(rt: &(impl Input + Print)) -> Result<(), Failure> {
     let mut archive = [0u8; 8192];
     let mut pool = [0u8; 32768];
     let mut groups = [0u32; 8192];
     let mut table = [0u16; 16384];
     let mut owners = [0u32; 768];
     let mut history = [0u16; 256];
+    let mut memory = Memory {
+        archive: &mut archive,
+        pool: &mut pool,
+        groups: &mut groups,
+        table: &mut table,
+        owners: &mut owners,
+        history: &mut history,
+    };
     let mut out = [0u8; 65536];
-    let read = read_all(
-        &rt,
-        &mut archive,
-        &mut pool,
-        &mut groups,
-        &mut table,
-        &mut owners,
-        &mut history,
-        &mut out,
-    );
-    if !read.ok {
-        return;
+    let Some(runner) = read_all(rt, &mut memory, &mut out)? else {
+        return Ok(());
+    };
+    let filled = session::finish(runner, &mut memory, &mut out);
+    write_out(rt, &out[..filled])
+}
+
+// Runs a session, and tells on standard error what failed; there is no other place to tell that this failed too.
+fn main(rt: HostRuntime) {
+    if let Err(failure) = run(&rt) {
+        let _ = rt.eprintln(format_args!("session: {failure}"));
     }
-    let runner = read.runner;
-    let filled = session::finish(
-        runner,
-        &mut archive,
-        &mut pool,
-        &mut groups,
-        &mut table,
-        &mut owners,
-        &mut history,
-        &mut out,
-    );
-    write_out(&rt, &out, filled);
 }

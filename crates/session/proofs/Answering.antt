@@ -4,16 +4,18 @@ use mathlib.Core.Bool.{Bool, true, false, cond, true≢false, false≢true}
 use mathlib.Core.List.{List, [], ◌∷◌, ◌++◌}
 use Prim.Native.Nat.{ℕ, ◌<◌, ◌≤◌}
 use native.Mathlib.Omega.{arith}
-use borrow.Author.Tests.{eq-eqb, ne_eqb}
 use lib.ListN.{length}
 use Rattle.text.specs.Parts.{Text}
 use Rattle.text.specs.Lines.{Holds}
 use Rattle.text.specs.declared.Reader.{Reader}
 use Rattle.records.specs.declared.Word.{Word}
-use Rattle.records.specs.declared.Parsed.{Parsed}
+use Rattle.std.specs.Prelude.{Ok, Err}
+use Rattle.records.specs.declared.Record.{Record}
+use Rattle.records.specs.declared.Refusal.{Refusal}
+use Rattle.records.specs.declared.Refusal.TheVariants.{Early}
 use Rattle.records.specs.Records.{Asked, parsed}
 use Rattle.records.specs.Records.Asked.{asks, turned_down}
-use Rattle.records.specs.Shown.{numbers_of, shown_parsed}
+use Rattle.records.specs.Shown.{numbers_of, refusal_number, shown_parsed}
 use Rattle.rules.specs.Call.{Answer, number_in}
 use Rattle.rules.specs.Call.Answer.{outcome}
 use Rattle.store.specs.Shown.{StoreState, blank_state, Lent, kept, lengths_of, Promises, Ran}
@@ -46,32 +48,23 @@ pub record AnswersLine (d : Desk) (line : Text) (e : Desk) (answer : Text) : Typ
   pub made : (x : Running) → Stands d x → Made x (line_after (lengths_of d.lent) x line) (kept_on d) (kept_on e)
 
 -- What a line says in code.
-shown-zero : (r : Parsed) → r.refusal ≡ 0 → shown_parsed r ≡ asks r.entry.word (numbers_of r.entry)
-unfolding shown_parsed
-shown-zero r e = ap (λ (t : Bool). cond t (asks r.entry.word (numbers_of r.entry)) (turned_down r.refusal)) (eq-eqb r.refusal 0 e)
+module _ (started : Bool) (line : Text) where
+  pub ask-down : (e : Refusal) → shown_parsed (Err e) ≡ parsed line → shown_parsed (Err e) ≡ admitted started (parsed line)
+  unfolding admitted shown_parsed
+  ask-down e p = ap (admitted started) p
 
-shown-other : (r : Parsed) → (r.refusal ≡ 0 → ⊥) → shown_parsed r ≡ turned_down r.refusal
-unfolding shown_parsed
-shown-other r d = ap (λ (t : Bool). cond t (asks r.entry.word (numbers_of r.entry)) (turned_down r.refusal)) (ne_eqb r.refusal 0 d)
+  module _ (r : Record) (p : shown_parsed (Ok r) ≡ parsed line) (b : Bool) (q : b ≡ early started r.word) where
+    admitted-record : admitted started (parsed line) ≡ cond b (turned_down 3) (asks r.word (numbers_of r))
+    unfolding admitted shown_parsed
+    admitted-record = ap (admitted started) (sym p) ∙ ap (λ (x : Bool). cond x (turned_down 3) (asks r.word (numbers_of r))) (sym q)
 
-module _ (started : Bool) (line : Text) (r : Parsed) (p : shown_parsed r ≡ parsed line) where
-  pub ask-down : (r.refusal ≡ 0 → ⊥) → shown_parsed r ≡ admitted started (parsed line)
-  unfolding admitted
-  ask-down d = shown-other r d ∙ ap (admitted started) (sym (shown-other r d) ∙ p)
+    pub ask-early : b ≡ true → shown_parsed (Err Early) ≡ admitted started (parsed line)
+    unfolding shown_parsed
+    ask-early t = sym (admitted-record ∙ ap (λ (x : Bool). cond x (turned_down 3) (asks r.word (numbers_of r))) t)
 
-  admitted-record : r.refusal ≡ 0 → admitted started (parsed line) ≡ cond (early started r.entry.word) (turned_down 3) (asks r.entry.word (numbers_of r.entry))
-  unfolding admitted
-  admitted-record e = ap (admitted started) (sym p ∙ shown-zero r e)
-
-  pub ask-early : (b : Bool) → r.refusal ≡ 0 → b ≡ early started r.entry.word → b ≡ true → shown_parsed (record { refusal = 3; entry = r.entry }) ≡ admitted started (parsed line)
-  unfolding shown_parsed
-  ask-early b e q t =
-      sym (admitted-record e ∙ ap (λ (x : Bool). cond x (turned_down 3) (asks r.entry.word (numbers_of r.entry))) (sym q ∙ t))
-
-  pub ask-record : (b : Bool) → r.refusal ≡ 0 → b ≡ early started r.entry.word → b ≡ false → shown_parsed r ≡ admitted started (parsed line)
-  ask-record b e q t =
-      shown-zero r e
-      ∙ sym (admitted-record e ∙ ap (λ (x : Bool). cond x (turned_down 3) (asks r.entry.word (numbers_of r.entry))) (sym q ∙ t))
+    pub ask-record : b ≡ false → shown_parsed (Ok r) ≡ admitted started (parsed line)
+    unfolding shown_parsed
+    ask-record t = sym (admitted-record ∙ ap (λ (x : Bool). cond x (turned_down 3) (asks r.word (numbers_of r))) t)
 
 -- What an answer has to be, for any store of the session: the transcript's, with the store that it leaves.
 pub record Fits (d : Desk) (p : Asked) (a : Answer) (started : Bool) (state : StoreState) (after : Lent) : Type 0 where
@@ -151,10 +144,10 @@ fits-down d (asks w ns) n e = go (early d.started w) refl e
         }
     go false t f = absurd (false≢true (ap is_asked f))
 
-pub answers-down : (d : Desk) (line : Text) (r : Parsed) → 0 < length line → shown_parsed r ≡ admitted d.started (parsed line) → (r.refusal ≡ 0 → ⊥)
-    → AnswersLine d line (desk_of d.state d.started (tally_after d.tally r.refusal) d.lent) (answer_line (answer_of r.refusal Nothing))
-answers-down d line r h e n =
-    line-answered d r.refusal Nothing d.started d.state d.lent line h (fits-down d (parsed line) r.refusal (sym (shown-other r n) ∙ e)) refl
+pub answers-down : (d : Desk) (line : Text) (e : Refusal) (n : ℕ) → 0 < length line → shown_parsed (Err e) ≡ admitted d.started (parsed line) → n ≡ refusal_number e
+    → AnswersLine d line (desk_of d.state d.started (tally_after d.tally n) d.lent) (answer_line (answer_of n Nothing))
+unfolding shown_parsed
+answers-down d line e n h a i = line-answered d n Nothing d.started d.state d.lent line h (fits-down d (parsed line) n (ap turned_down i ∙ a)) refl
 
 -- and one whose call is made.
 module _ (d : Desk) (n : ℕ) (shown : Shown) (started : Bool) (state : StoreState) (after : Lent) (w : Word) (ns : List ℕ)
@@ -186,10 +179,8 @@ module _ (d : Desk) (n : ℕ) (shown : Shown) (started : Bool) (state : StoreSta
           subst (λ (p : Asked). Fits d p (answer_of n shown) started state after) f
           (fits-record (ap (λ (p : Asked). early d.started (word_in p)) f ∙ t))
 
-  pub answers-up : (line : Text) (r : Parsed) → 0 < length line → shown_parsed r ≡ admitted d.started (parsed line) → r.refusal ≡ 0
-      → w ≡ r.entry.word → ns ≡ numbers_of r.entry
+  pub answers-up : (line : Text) (r : Record) → 0 < length line → shown_parsed (Ok r) ≡ admitted d.started (parsed line) → w ≡ r.word → ns ≡ numbers_of r
       → AnswersLine d line (desk_of state started (tally_after d.tally n) after) (answer_line (answer_of n shown))
-  answers-up line r i e z f g =
-      line-answered d n shown started state after line i
-      (fits-up (parsed line) (ap (λ (u : Word). asks u ns) f ∙ (ap (asks r.entry.word) g ∙ (sym (shown-zero r z) ∙ e))))
-      h.lengths
+  unfolding shown_parsed
+  answers-up line r i e f g =
+      line-answered d n shown started state after line i (fits-up (parsed line) (ap (λ (u : Word). asks u ns) f ∙ (ap (asks r.word) g ∙ e))) h.lengths

@@ -26,18 +26,6 @@ use Rattle.session.specs.Transcript.{Store, is_other, calls_for, reset_in, unsta
 use Rattle.session.specs.Running.{Stored}
 use Rattle.session.specs.Between.{early, started_after}
 
--- A word in the form in which a match has it.
-pub other-of : (asked form : Word) (b : Bool) → asked ≡ form → b ≡ is_other form → b ≡ is_other asked
-other-of asked form b f g = g ∙ sym (ap is_other f)
-
-pub early-of : (started : Bool) (w : Word) (b : Bool) → started ≡ false → b ≡ is_other w → b ≡ early started w
-unfolding early
-early-of started w b e g = g ∙ sym (ap (λ (x : Bool). early x w) e)
-
-pub early-not : (started : Bool) (w : Word) → started ≡ true → false ≡ early started w
-unfolding early
-early-not started w e = sym (ap (λ (b : Bool). early b w) e)
-
 -- Whether a reset was accepted.
 started-true : (b : Bool) (n : ℕ) → b ≡ true → started_after b n ≡ true
 unfolding started_after
@@ -54,16 +42,6 @@ started-false b n e d = ap (λ (x : Bool). x || eqb n 0) e ∙ ne_eqb n 0 d
 
 pub started-suc : (b : Bool) (n : ℕ) → b ≡ false → started_after b (suc n) ≡ false
 started-suc b n e = started-false b (suc n) e (λ d. omega arith)
-
--- as the tests have it
-pub started-before : (b : Bool) (n : ℕ) → b ≡ true → true ≡ started_after b n
-started-before b n e = sym (started-true b n e)
-
-pub started-now : (b : Bool) (n : ℕ) → n ≡ 0 → true ≡ started_after b n
-started-now b n e = sym (started-zero b n e)
-
-pub started-not : (b : Bool) (n : ℕ) → b ≡ false → (n ≡ 0 → ⊥) → false ≡ started_after b n
-started-not b n e d = sym (started-false b n e d)
 
 -- What a word asks for: a reset, or an act whose answer has a number.
 pub record Resets (w : Word) (c : Call) : Type 0 where

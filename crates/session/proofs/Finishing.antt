@@ -1,5 +1,5 @@
 -- The end of input. Assumes nothing.
-use mathlib.Core.Path.{◌≡◌, refl, sym, ◌∙◌, ap, ap₂}
+use mathlib.Core.Path.{◌≡◌, sym, ◌∙◌, ap, ap₂}
 use mathlib.Core.Bool.{Bool}
 use mathlib.Core.List.{[], ◌∷◌, ◌++◌}
 use Prim.Native.Nat.{ℕ, ◌+◌, ◌-◌, ◌≤◌, ◌<◌}
@@ -10,7 +10,7 @@ use Rattle.text.specs.Lines.{looked}
 use Rattle.text.specs.Lines as lines
 use Rattle.text.specs.Output.{Puts}
 use Rattle.text.specs.declared.Reader.{Reader}
-use Rattle.text.proofs.Putting.{puts_none, puts_then}
+use Rattle.text.proofs.Putting.{puts_then}
 use Rattle.rules.specs.Settings.{Pieces}
 use Rattle.store.specs.Shown.{StoreState, Lent, kept, lengths_of}
 use Rattle.tally.specs.declared.Tally.{Tally}
@@ -23,18 +23,6 @@ use Rattle.session.specs.Between.{desk_of, desk_in, Stands, Lines, NoneLeft}
 use Rattle.session.proofs.Whole.{whole-text, whole-stands, whole-made}
 use Rattle.session.proofs.Feeding.{desk-stands}
 use Rattle.session.proofs.Streaming.{last_line}
-
-pub finished-none : (r : Runner) (m : Lent) (out : Text) → length out < longest + longest_end → Finishes r m out m out 0
-finished-none r m out h =
-    record {
-      lengths = refl;
-      said = [];
-      fits = omega arith;
-      puts = puts_none out 0;
-      full = λ k. (refl, refl, refl);
-      ends = λ k. absurd (omega (arith, h, k));
-      leaves = λ k. absurd (omega (arith, h, k));
-    }
 
 line_few : (lengths : Pieces) (x : Running) (line : Text) → length (line_text lengths x line) ≤ longest
 unfolding line_text

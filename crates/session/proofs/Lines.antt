@@ -13,7 +13,7 @@ use Rattle.replies.specs.Answers.{longest}
 use Rattle.session.specs.Transcript.{Running, onward, line_text, line_after, told_to}
 use Rattle.store.specs.Shown.{lengths_of}
 use Rattle.session.specs.Running.{Made}
-use Rattle.session.specs.Between.{Desk, kept_on, Stands, Goes, Lines, NoneLeft}
+use Rattle.session.specs.Between.{Desk, kept_on, Stands, Goes, Lines}
 use Rattle.session.proofs.Making.{made_none, made_then}
 use Rattle.session.proofs.Answering.{AnswersLine}
 use Rattle.session.proofs.Telling.{onward_then, onward-none, told-ended}
@@ -55,9 +55,6 @@ module _ {d : Desk} {text : Text} {from : ℕ} {first : Text} {at : ℕ} {e : De
 
   pub lines_few : filled ≤ length first
   lines_few = omega (arith, w.puts.ends, w.fits)
-
-  pub lines-inside : filled ≤ length out
-  lines-inside = omega (arith, lines_few, lines-room)
 
   module _ (end : ℕ) (here : end ≡ used + up_to 10 (drop used text)) where
     module _ (f : Desk) (answer after : Text) (behind : ℕ) (inside : end < length text) (room : longest ≤ length first - filled)
@@ -133,6 +130,3 @@ module _ {d : Desk} {text : Text} {from : ℕ} {first : Text} {at : ℕ} {e : De
             moved = λ z. absurd (omega (arith, z, here, w.low));
             goes = goes-next;
           }
-
-    pub lines-stop : (room : ℕ) → length text ≤ end → NoneLeft text room used filled
-    lines-stop room h = λ r. omega (arith, here, h, length-drop used text, w.within)

@@ -4,14 +4,15 @@
 ghost use Rattle.std.specs.Prelude.{◌≡◌, [], ◌≤◌, length};
 ghost use Rattle.records.specs.Records.{parsed};
 ghost use Rattle.records.specs.Shown.{shown_parsed};
-ghost use Rattle.store.specs.Shown.{Lent, lent_of};
+ghost use Rattle.store.specs.Shown.{Lent};
+ghost use Rattle.store.specs.Memory.{lent_in, SamePieces};
 ghost use Rattle.session.specs.Transcript.{beginning, is_other};
 ghost use Rattle.session.specs.Running.{StandsFor, Taken, Finishes};
-ghost use Rattle.session.specs.Between.{early, admitted, started_after, desk_of, Lines, NoneLeft, Rested};
+ghost use Rattle.session.specs.Between.{early, admitted, started_after, desk_in, Lines, NoneLeft, Rested};
 
-use records::{Parsed, Record, Word};
+use records::{Record, Refusal, Word};
 use replies::{LONGEST, LONGEST_END, Shown};
-use store::State;
+use store::{Memory, State};
 use tally::Tally;
 use text::Reader;
 
@@ -22,16 +23,6 @@ pub struct Runner {
     pub started: bool,
     pub tally: Tally,
     pub reader: Reader,
-}
-
-// What lines leave: the state, whether a reset was accepted, and the tally; how far their text was taken, and the output filled.
-#[derive(Clone, Copy)]
-struct Answered {
-    state: State,
-    started: bool,
-    tally: Tally,
-    used: usize,
-    filled: usize,
 }
 
 // The runner after some bytes of input, how many they were, and how many bytes of output it put.
@@ -58,115 +49,96 @@ pub fn start() -> Runner
 }
 
 // Whether a word is another than `reset`.
+#[tactic(auto, unfolding(crate::specs::Transcript::is_other))]
 fn is_other(word: Word) -> bool
     ensures { result ≡ is_other word }
 {
-    match word {
-        Word::Reset => false,
-        Word::Read => true,
-        Word::Write => true,
-        Word::Mark => true,
-        Word::Back => true,
-        Word::Advance => true,
-        Word::Counts => true,
-    }
+    !matches!(word, Word::Reset)
 }
 
 // Whether a word is another than `reset`, before the first accepted reset.
+#[tactic(auto, unfolding(crate::specs::Between::early))]
 fn is_early(started: bool, word: Word) -> bool
     ensures { result ≡ early started word }
 {
-    if started {
-        return false;
-    }
-    is_other(word)
+    !started && is_other(word)
 }
 
 // What a line asks for, or its refusal of 1 to 3.
-fn ask(started: bool, line: &[u8]) -> Parsed
+fn ask(started: bool, line: &[u8]) -> Result<Record, Refusal>
     ensures { shown_parsed result ≡ admitted started (parsed line.now) }
 {
-    let parsed = records::parse(line);
-    if parsed.refusal != 0 {
-        return parsed;
+    let entry = records::parse(line)?;
+    if is_early(started, entry.word) {
+        return Err(Refusal::Early);
     }
-    let entry = parsed.entry;
-    let word = entry.word;
-    if is_early(started, word) {
-        return Parsed { refusal: 3, entry };
-    }
-    parsed
+    Ok(entry)
 }
 
 // Whether a reset was accepted, now that a record got a refusal or 0.
+#[tactic(auto, unfolding(crate::specs::Between::started_after))]
 fn has_started(started: bool, refusal: u32) -> bool
     ensures { result ≡ started_after started refusal }
 {
-    if started {
-        return true;
-    }
-    if refusal == 0 {
-        return true;
-    }
-    false
+    started || refusal == 0
 }
 
-// Answers the lines that end in a text from a place on, while the output has room for the longest answer.
+// Answers the lines that end in a text from a place on, while the output, from `at` on, has room for the longest answer. The runner's line that is
+// not whole yet is let be.
 fn answer_lines(
-    before: State,
-    accepted: bool,
-    sum: Tally,
-    archive: &mut [u8],
-    pool: &mut [u8],
-    groups: &mut [u32],
-    table: &mut [u16],
-    owners: &mut [u32],
-    history: &mut [u16],
+    before: Runner,
+    memory: &mut Memory,
     chunk: &[u8],
     from: usize,
     out: &mut [u8],
     at: usize,
-) -> Answered
+) -> Fed
     requires { (from ≤ length chunk.now) × (at ≤ length out.old) }
-    ensures { Lines
-        (desk_of before accepted sum (lent_of archive.old pool.old groups.old table.old owners.old history.old))
+    ensures pieces { SamePieces memory.old memory.new }
+    ensures lines { Lines
+        (desk_in before (lent_in memory.old))
         chunk.now from out.old at
-        (desk_of result.state result.started result.tally (lent_of archive.new pool.new groups.new table.new owners.new history.new))
+        (desk_in result.runner (lent_in memory.new))
         out.new result.used result.filled
         × NoneLeft chunk.now (length out.old) result.used result.filled }
 {
+    // The same pieces in a value of this function, so that their places are not read anew for each line.
+    let mut pieces = Memory {
+        archive: &mut *memory.archive,
+        pool: &mut *memory.pool,
+        groups: &mut *memory.groups,
+        table: &mut *memory.table,
+        owners: &mut *memory.owners,
+        history: &mut *memory.history,
+    };
     let count = chunk.len();
     let room = out.len();
-    let mut state = before;
-    let mut started = accepted;
-    let mut tally = sum;
+    let mut state = before.state;
+    let mut started = before.started;
+    let mut tally = before.tally;
     let mut used = from;
     let mut filled = at;
+    // A while: an iterator over lines would yield the unfinished one too, and how far they were taken would still be counted beside it.
     while LONGEST <= room - filled {
         let end = text::part_end(chunk, used, 10);
         if count <= end {
-            return Answered {
-                state,
-                started,
-                tally,
-                used,
-                filled,
-            };
+            break;
         }
         if end <= used {
             used = end + 1;
             continue;
         }
-        let asked = ask(started, &chunk[used..end]);
-        let turned = asked.refusal;
-        if turned != 0 {
-            filled = replies::put_answer(out, filled, turned, Shown::Nothing);
-            tally = tally::tallied(tally, turned);
-            used = end + 1;
-            continue;
-        }
-        let entry = asked.entry;
-        let reply = replies::call(state, archive, pool, groups, table, owners, history, entry);
+        let entry = match ask(started, &chunk[used..end]) {
+            Ok(entry) => entry,
+            Err(refused) => {
+                let turned = refused.number();
+                filled = replies::put_answer(out, filled, turned, Shown::Nothing);
+                tally = tally::tallied(tally, turned);
+                used = end + 1;
+                continue;
+            }
+        };
+        let reply = replies::call(state, &mut pieces, entry);
         let refusal = reply.refusal;
         let shown = reply.shown;
         state = reply.state;
@@ -175,10 +147,13 @@ fn answer_lines(
         started = has_started(started, refusal);
         used = end + 1;
     }
-    Answered {
-        state,
-        started,
-        tally,
+    Fed {
+        runner: Runner {
+            state,
+            started,
+            tally,
+            ..before
+        },
         used,
         filled,
     }
@@ -186,75 +161,46 @@ fn answer_lines(
 
 // Answers the lines that end in a chunk from a place on, and keeps what is left of it, if there is room.
 fn feed_rest(
-    before: State,
-    accepted: bool,
-    sum: Tally,
-    archive: &mut [u8],
-    pool: &mut [u8],
-    groups: &mut [u32],
-    table: &mut [u16],
-    owners: &mut [u32],
-    history: &mut [u16],
+    before: Runner,
+    memory: &mut Memory,
     chunk: &[u8],
     from: usize,
     out: &mut [u8],
     at: usize,
 ) -> Fed
     requires { (from ≤ length chunk.now) × (at ≤ length out.old) }
-    ensures { Rested
-        (desk_of before accepted sum (lent_of archive.old pool.old groups.old table.old owners.old history.old))
-        chunk.now from out.old at result.runner (lent_of archive.new pool.new groups.new table.new owners.new history.new)
+    ensures pieces { SamePieces memory.old memory.new }
+    ensures rested { Rested
+        (desk_in before (lent_in memory.old))
+        chunk.now from out.old at result.runner (lent_in memory.new)
         out.new result.used result.filled }
 {
     let room = out.len();
-    let lines = answer_lines(
-        before, accepted, sum, archive, pool, groups, table, owners, history, chunk, from, out, at,
-    );
-    let used = lines.used;
-    let filled = lines.filled;
-    let state = lines.state;
-    let tally = lines.tally;
+    let lines = answer_lines(before, memory, chunk, from, out, at);
+    let runner = lines.runner;
     let none = text::no_line();
-    if room - filled < LONGEST {
+    if room - lines.filled < LONGEST {
         return Fed {
             runner: Runner {
-                state,
-                started: lines.started,
-                tally,
                 reader: none,
+                ..runner
             },
-            used,
-            filled,
+            ..lines
         };
     }
-    let reader = text::keep(none, &chunk[used..]);
+    let reader = text::keep(none, &chunk[lines.used..]);
     Fed {
-        runner: Runner {
-            state,
-            started: lines.started,
-            tally,
-            reader,
-        },
+        runner: Runner { reader, ..runner },
         used: chunk.len(),
-        filled,
+        ..lines
     }
 }
 
 // Takes bytes of input while the output has room for the longest answer, and puts there what the runner says to them.
-pub fn feed(
-    runner: Runner,
-    archive: &mut [u8],
-    pool: &mut [u8],
-    groups: &mut [u32],
-    table: &mut [u16],
-    owners: &mut [u32],
-    history: &mut [u16],
-    chunk: &[u8],
-    out: &mut [u8],
-) -> Fed
-    ensures { Taken runner (lent_of archive.old pool.old groups.old table.old owners.old history.old) chunk.now out.old result.runner (lent_of archive.new pool.new groups.new table.new owners.new history.new) out.new result.used result.filled }
+pub fn feed(runner: Runner, memory: &mut Memory, chunk: &[u8], out: &mut [u8]) -> Fed
+    ensures pieces { SamePieces memory.old memory.new }
+    ensures taken { Taken runner (lent_in memory.old) chunk.now out.old result.runner (lent_in memory.new) out.new result.used result.filled }
 {
-    let count = chunk.len();
     if out.len() < LONGEST {
         return Fed {
             runner,
@@ -263,34 +209,16 @@ pub fn feed(
         };
     }
     let reader = runner.reader;
-    let state = runner.state;
-    let tally = runner.tally;
     if reader.count == 0 {
-        return feed_rest(
-            state,
-            runner.started,
-            tally,
-            archive,
-            pool,
-            groups,
-            table,
-            owners,
-            history,
-            chunk,
-            0,
-            out,
-            0,
-        );
+        return feed_rest(runner, memory, chunk, 0, out, 0);
     }
     let end = text::part_end(chunk, 0, 10);
     let whole = text::keep(reader, &chunk[..end]);
-    if count <= end {
+    if chunk.len() <= end {
         return Fed {
             runner: Runner {
-                state,
-                started: runner.started,
-                tally,
                 reader: whole,
+                ..runner
             },
             used: end,
             filled: 0,
@@ -298,79 +226,26 @@ pub fn feed(
     }
     let line = text::ended(whole);
     let kept = line.kept;
-    let first = answer_lines(
-        state,
-        runner.started,
-        tally,
-        archive,
-        pool,
-        groups,
-        table,
-        owners,
-        history,
-        &kept[..line.count],
-        0,
-        out,
-        0,
-    );
-    let after = first.state;
-    let sum = first.tally;
-    feed_rest(
-        after,
-        first.started,
-        sum,
-        archive,
-        pool,
-        groups,
-        table,
-        owners,
-        history,
-        chunk,
-        end + 1,
-        out,
-        first.filled,
-    )
+    let first = answer_lines(runner, memory, &kept[..line.count], 0, out, 0);
+    let after = first.runner;
+    feed_rest(after, memory, chunk, end + 1, out, first.filled)
 }
 
 // The end of input: puts the answer to a last line without its line feed, and the tally. With less room than the longest of both nothing is
 // done.
-pub fn finish(
-    runner: Runner,
-    archive: &mut [u8],
-    pool: &mut [u8],
-    groups: &mut [u32],
-    table: &mut [u16],
-    owners: &mut [u32],
-    history: &mut [u16],
-    out: &mut [u8],
-) -> usize
-    ensures { Finishes runner (lent_of archive.old pool.old groups.old table.old owners.old history.old) out.old (lent_of archive.new pool.new groups.new table.new owners.new history.new) out.new result }
+pub fn finish(runner: Runner, memory: &mut Memory, out: &mut [u8]) -> usize
+    ensures pieces { SamePieces memory.old memory.new }
+    ensures finished { Finishes runner (lent_in memory.old) out.old (lent_in memory.new) out.new result }
 {
     let room = out.len();
     if room < LONGEST + LONGEST_END {
         return 0;
     }
-    let reader = runner.reader;
-    let line = text::ended(reader);
+    let line = text::ended(runner.reader);
     let kept = line.kept;
-    let state = runner.state;
-    let sum = runner.tally;
-    let last = answer_lines(
-        state,
-        runner.started,
-        sum,
-        archive,
-        pool,
-        groups,
-        table,
-        owners,
-        history,
-        &kept[..line.count],
-        0,
-        out,
-        0,
-    );
-    let tally = last.tally;
+    let last = answer_lines(runner, memory, &kept[..line.count], 0, out, 0);
+    let after = last.runner;
+    let tally = after.tally;
     let filled = last.filled;
     if room - filled < LONGEST_END {
         return filled;

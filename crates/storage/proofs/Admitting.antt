@@ -25,7 +25,7 @@ use Rattle.versions.specs.Newest.{AsksNewest}
 use Rattle.versions.specs.Steps.{AsksPageFor}
 use Rattle.versions.proofs.Finding.{entry-asks}
 use Rattle.storage.specs.Storage.{start_in}
-use Rattle.storage.specs.Admit.{in_elements, admitted, Room, Admits}
+use Rattle.storage.specs.Admit.{in_elements, settings_refusal, admitted, Room, Admits}
 use Rattle.storage.proofs.Rings.{start-below}
 
 -- Each piece is long enough.
@@ -85,22 +85,22 @@ covers-enough s p =
     half : (x : ℕ) → 2 * x / 2 ≡ x
     half x = omega arith
 
--- so that 4 and 6 are told from its answer.
-module _ (s : Settings) (p : Pieces) (need : Need) (told : need ≡ sizing s) where
-  pub asked-outside : (need.refusal ≡ 0 → ⊥) → 4 ≡ asked_refusal p s
-  unfolding sizing asked_refusal sizes_of unless
-  asked-outside h = go (within s) refl
+-- so that 6, and the number of settings outside the limits, are told from its answer.
+module _ (n : ℕ) (s : Settings) (p : Pieces) (need : Need) (told : need ≡ sizing s) where
+  pub outside-told : (need.refusal ≡ 0 → ⊥) → n ≡ settings_refusal n s p
+  unfolding sizing sizes_of unless
+  outside-told h = go (within s) refl
     where
-      go : (b : Bool) → within s ≡ b → 4 ≡ unless b 4 (unless (enough s p) 6 0)
+      go : (b : Bool) → within s ≡ b → n ≡ unless b n (unless (enough s p) 6 0)
       go true e = absurd (h (ap (λ (n : Need). n.refusal) told ∙ ap (λ (b : Bool). (cond b (sizes_of s) no_sizes).refusal) e))
       go false e = refl
 
   module _ (given : need.refusal ≡ 0) (b : Bool) (covered : b ≡ covers (in_elements need) p) where
-    asked-inside : asked_refusal p s ≡ unless b 6 0
-    unfolding sizing asked_refusal no_sizes unless
-    asked-inside = go (within s) refl
+    inside-told : settings_refusal n s p ≡ unless b 6 0
+    unfolding sizing no_sizes unless
+    inside-told = go (within s) refl
       where
-        go : (w : Bool) → within s ≡ w → unless w 4 (unless (enough s p) 6 0) ≡ unless b 6 0
+        go : (w : Bool) → within s ≡ w → unless w n (unless (enough s p) 6 0) ≡ unless b 6 0
         go true e =
             let same : need ≡ sizes_of s = told ∙ ap (λ (w : Bool). cond w (sizes_of s) no_sizes) e in
             ap (λ (x : Bool). unless x 6 0) (sym (covered ∙ (ap (λ (n : Need). covers (in_elements n) p) same ∙ covers-enough s p)))
@@ -108,13 +108,17 @@ module _ (s : Settings) (p : Pieces) (need : Need) (told : need ≡ sizing s) wh
             let none : ◌≡◌ {A = ℕ} 4 0 = sym (ap (λ (n : Need). n.refusal) told ∙ ap (λ (w : Bool). (cond w (sizes_of s) no_sizes).refusal) e) ∙ given in
             absurd (omega arith)
 
-    pub asked-long : b ≡ true → 0 ≡ asked_refusal p s
+    pub long-told : b ≡ true → 0 ≡ settings_refusal n s p
     unfolding unless
-    asked-long t = sym (asked-inside ∙ ap (λ (x : Bool). unless x 6 0) t)
+    long-told t = sym (inside-told ∙ ap (λ (x : Bool). unless x 6 0) t)
 
-    pub asked-short : b ≡ false → 6 ≡ asked_refusal p s
+    pub short-told : b ≡ false → 6 ≡ settings_refusal n s p
     unfolding unless
-    asked-short t = sym (asked-inside ∙ ap (λ (x : Bool). unless x 6 0) t)
+    short-told t = sym (inside-told ∙ ap (λ (x : Bool). unless x 6 0) t)
+
+pub asked-told : (s : Settings) (p : Pieces) (r : ℕ) → r ≡ settings_refusal 4 s p → r ≡ asked_refusal p s
+unfolding asked_refusal
+asked-told s p r e = e
 
 -- 5 and 6.
 module _ (s : Registers) (p : Pieces) where
@@ -135,23 +139,9 @@ module _ (s : Registers) (p : Pieces) where
     fits-within =
         ap₂ (λ (x y : Bool). within s.settings && (x && y)) (lt-ltb s.cmf s.settings.frames cmf_below) (lt-ltb s.omf s.settings.frames omf_below) ∙ and-true (within s.settings)
 
-    module _ (r : ℕ) (asked : r ≡ asked_refusal p s.settings) where
-      pub outside-limits : r ≡ 4 → 5 ≡ admitted s p 0
-      unfolding asked_refusal state_refusal facts_by unless
-      outside-limits e = go (within s.settings) (enough s.settings p) refl (sym e ∙ asked)
-        where
-          go : (w l : Bool) → within s.settings ≡ w → 4 ≡ unless w 4 (unless l 6 0) → 5 ≡ admitted s p 0
-          go true true d h = absurd (omega arith)
-          go true false d h = absurd (omega arith)
-          go false l d h = sym (ap (λ (x : Bool). unless x 5 (unless (enough s.settings p) 6 0)) (fits-within ∙ d))
-
-      pub admitted-else : (r ≡ 4 → ⊥) → r ≡ admitted s p 0
-      unfolding asked_refusal state_refusal facts_by unless
-      admitted-else e = go (within s.settings) refl asked
-        where
-          go : (w : Bool) → within s.settings ≡ w → r ≡ unless w 4 (unless (enough s.settings p) 6 0) → r ≡ admitted s p 0
-          go true d h = h ∙ sym (ap (λ (x : Bool). unless x 5 (unless (enough s.settings p) 6 0)) (fits-within ∙ d))
-          go false d h = absurd (e h)
+    pub inside-limits : (r : ℕ) → r ≡ settings_refusal 5 s.settings p → r ≡ admitted s p 0
+    unfolding state_refusal facts_by
+    inside-limits r e = e ∙ sym (ap (λ (x : Bool). unless x 5 (unless (enough s.settings p) 6 0)) fits-within)
 
 -- What a state within its limits and lent memory have,
 pub room_of : (s : Registers) (p : Pieces) → Fits s → Long (elements s.settings) p → Room s p

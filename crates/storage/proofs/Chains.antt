@@ -1,4 +1,10 @@
 -- A chain of tests before the rest of a call's refusals, and the returns of the functions that make the tests. Assumes nothing.
+use Rattle.std.specs.Prelude.{Option, Result, Ok, Err}
+use Rattle.std.specs.Result.{result_and}
+use Rattle.rules.specs.declared.Refusal.{Refusal}
+use Rattle.rules.specs.declared.Refusal.TheVariants as refusal
+use Rattle.rules.specs.Refusals.{number, refusal_in}
+use Rattle.rules.proofs.Refusals.{number-some}
 use mathlib.Core.Path.{◌≡◌, refl, sym, ◌∙◌, ap, ap₂, subst}
 use mathlib.Core.Logic.{◌≢◌, ◌⊎◌, inl, inr}
 use mathlib.Core.Bool.{Bool, true, false, not, ◌&&◌, ◌||◌, and-false, false≢true}
@@ -14,11 +20,9 @@ use Rattle.rules.specs.Registers.{Registers, live_frames, state_fits}
 use Rattle.rules.specs.Refusal.{unless, is_width, asked_refusal, line_refusal, marked_refusal, place_refusal, write_refusal, list_refusal, facts_by, state_refusal}
 use Rattle.rules.proofs.Chain.{Placed, fails, passes, passed, place-passed, write-passed, marked-passed}
 use Rattle.rules.proofs.Width.{widths, in-line, line_below}
-use Rattle.numbers.specs.declared.Found.{Found}
 use Rattle.written.specs.Bits.{written_of, newest_from}
 use Rattle.lists.specs.Lines.{AsksBytes}
 use Rattle.lists.proofs.Values.{four}
-use Rattle.versions.specs.declared.Spot.{Spot}
 use Rattle.versions.specs.Newest.{AsksSpot, spot_of, AsksContent}
 use Rattle.versions.proofs.Finding.{newest-below, content-asks}
 use Rattle.storage.specs.Admit.{admitted, LineRoom, PlaceRoom, FramesRoom, Admits}
@@ -174,6 +178,18 @@ module _ (s : Registers) (p : Pieces) where
       unfolding list_refusal unless
       list-short items room h = admitted-on 14 (list_refusal items room) (sym (ap (λ (b : Bool). unless b 14 0) (lt-leb items room h)))
 
+-- The tests of a block of writes, whether 5 and 6 passed or not.
+module _ (s : Registers) (p : Pieces) where
+  pub list-passes-after : (r : Result (Unit {0}) Refusal) → refusal_in r ≡ admitted s p 0 → (items room : ℕ) → items ≤ room
+      → refusal_in r ≡ admitted s p (list_refusal items room)
+  list-passes-after (Ok u) told items room h = list-passes s p 0 told refl items room h
+  list-passes-after (Err e) told items room h = admitted-turned s p (number e) told (list_refusal items room) (number-some e)
+
+  pub list-short-after : (r : Result (Unit {0}) Refusal) → refusal_in r ≡ admitted s p 0 → (items room : ℕ) → room < items
+      → refusal_in {A = Unit {0}} (result_and r (Err refusal.Answers)) ≡ admitted s p (list_refusal items room)
+  list-short-after (Ok u) told items room h = list-short s p 0 told refl items room h
+  list-short-after (Err e) told items room h = admitted-turned s p (number e) told (list_refusal items room) (number-some e)
+
 -- What is left of an address by each of the widths.
 pub rest-one : (w addr : ℕ) → w ≡ 1 → 0 ≡ addr % w
 rest-one w addr e = sym (ap (λ (n : ℕ). addr % n) e ∙ mod-one addr)
@@ -284,7 +300,7 @@ pub frames-measured : {s : Registers} {p n : Pieces} {k : ℕ} → p ≡ n → F
 frames-measured {s = s} {k = k} e = subst (λ (m : Pieces). FramesRoom s m k) e
 
 pub line-spot : (s : Registers) (p : Pieces) (l : ℕ) → LineRoom s p l → (live : ℕ) → live ≡ live_frames s
-    → (groups history : List ℕ) (found : Found) → found ≡ newest_from (written_of s.settings.lines s.settings.frames s.omf groups history) l (live - 1)
+    → (groups history : List ℕ) (found : Option ℕ) → found ≡ newest_from (written_of s.settings.lines s.settings.frames s.omf groups history) l (live - 1)
     → AsksSpot s.settings.lines s.settings.frames s.omf l found p.table
 line-spot s p l g live e groups history found told =
     record {
@@ -297,7 +313,7 @@ line-spot s p l g live e groups history found told =
       table_long = g.room.table_long;
     }
 
-pub line-content : (s : Registers) (p : Pieces) (l : ℕ) → LineRoom s p l → (table : List ℕ) (found : Found) (spot : Spot)
+pub line-content : (s : Registers) (p : Pieces) (l : ℕ) → LineRoom s p l → (table : List ℕ) (found : Option ℕ) (spot : Option ℕ)
     → spot ≡ spot_of s.settings.lines s.settings.frames s.omf s.settings.pages table l found → AsksContent l spot p.archive p.pool
 line-content s p l g table found spot e =
     content-asks _ _ _ _ l table _ _ found spot g.room.lines_by g.room.lines_to g.line_below g.room.pages_to g.room.archive_long g.room.pool_long e

@@ -1,4 +1,5 @@
 -- The page that a WRITE goes to, on well-formed storage. Assumes nothing.
+use Rattle.std.specs.Prelude.{Option, Some, None}
 use mathlib.Core.Path.{◌≡◌, refl, sym, ◌∙◌, ap, ap₂, subst}
 use mathlib.Core.Logic.{◌≢◌, ◌⊎◌, inl, inr}
 use mathlib.Core.Bool.{Bool, true, false, cond, not, ◌&&◌, false≢true}
@@ -17,8 +18,6 @@ use Rattle.rules.specs.Figure2.{is_written, figure_seen}
 use Rattle.rules.specs.Promise.{seen_of}
 use Rattle.rules.proofs.Count.{any_same}
 use Rattle.frames.specs.Circle.{index_of, frame_at}
-use Rattle.numbers.specs.declared.Found.{Found}
-use Rattle.numbers.specs.declared.Found.TheVariants.{At, Nothing}
 use Rattle.frames.proofs.Circle.{frame_below, index-frame, frame-index}
 use Rattle.written.specs.Bits.{Written, written_of, Asks, effective}
 use Rattle.written.specs.Steps.{with_written}
@@ -37,31 +36,31 @@ use Rattle.storage.proofs.Limits.{Limits, limits, lent-long}
 use Rattle.storage.proofs.Counting.{written-effective, pages-counted}
 
 -- What a search gave.
-payload : Found → ℕ
-payload (At i) = i
-payload Nothing = 0
+payload : Option ℕ → ℕ
+payload (Some i) = i
+payload None = 0
 
-at_same : {i j : ℕ} → At i ≡ At j → i ≡ j
+at_same : {i j : ℕ} → Some i ≡ Some j → i ≡ j
 unfolding payload
 at_same e = ap payload e
 
-is_at : Found → Bool
-is_at (At i) = true
-is_at Nothing = false
+is_at : Option ℕ → Bool
+is_at (Some i) = true
+is_at None = false
 
-at_some : {i : ℕ} → At i ≡ Nothing → ⊥
+at_some : {i : ℕ} → Some i ≡ None → ⊥
 unfolding is_at
 at_some e = false≢true (sym (ap is_at e))
 
 -- A page chosen is one of the pages, on any storage.
-pub page_below : (lines pages first used : ℕ) (table owners : List ℕ) (frame l p : ℕ) → first < pages → page_for lines pages first used table owners frame l ≡ At p → p < pages
+pub page_below : (lines pages first used : ℕ) (table owners : List ℕ) (frame l p : ℕ) → first < pages → page_for lines pages first used table owners frame l ≡ Some p → p < pages
 unfolding page_for next_page
 page_below lines pages first used table owners frame l p h e = go (owns_page lines pages first used table owners frame l) refl (ltb used pages) e
   where
     entry : ℕ
     entry = get_or table (entry_at lines frame (l / 8)) 0
 
-    go : (t : Bool) → owns_page lines pages first used table owners frame l ≡ t → (u : Bool) → cond t (At entry) (cond u (At (nth_page pages first used)) Nothing) ≡ At p → p < pages
+    go : (t : Bool) → owns_page lines pages first used table owners frame l ≡ t → (u : Bool) → cond t (Some entry) (cond u (Some (nth_page pages first used)) None) ≡ Some p → p < pages
     go true d u e = subst (λ (y : ℕ). y < pages) (at_same e) (own-means pages first used owners entry (place_at frame (l / 8)) d).0
     go false d true e = subst (λ (y : ℕ). y < pages) (at_same e) (frame_below pages first h used)
     go false d false e = absurd (at_some (sym e))
@@ -203,7 +202,7 @@ module _ (x : Storage) (q : WellStore x) (l : ℕ) (b : l < x.state.registers.li
         }
 
   -- What the code asks of the ring, by the registers themselves.
-  abbrev pub page-choice : Found
+  abbrev pub page-choice : Option ℕ
   page-choice = page_for x.state.registers.lines x.state.registers.pages (ring_at x.state.registers).first (ring_at x.state.registers).used x.memory.table x.memory.owners x.state.registers.cmf l
 
   abbrev pub used-choice : ℕ
@@ -234,7 +233,7 @@ module _ (x : Storage) (q : WellStore x) (l : ℕ) (b : l < x.state.registers.li
           (ap (λ (p : ℕ). get_or x.memory.owners p 0) back ∙ m.2)))
       go false e false d = refl
 
-  abbrev at : (first used : ℕ) (f : ℕ) → Found
+  abbrev at : (first used : ℕ) (f : ℕ) → Option ℕ
   at first used f = page_for x.state.registers.lines x.state.registers.pages first used x.memory.table x.memory.owners f l
 
   abbrev many : (first used : ℕ) (f : ℕ) → ℕ
@@ -246,11 +245,11 @@ module _ (x : Storage) (q : WellStore x) (l : ℕ) (b : l < x.state.registers.li
   same-used : (ring_at x.state.registers).used ≡ x.state.registers.used
   same-used = used-same x.state.registers.used x.state.registers.pages q.pages.used_few
 
-  choice-is : page-choice ≡ cond (needed_at w place) (At (get_or x.memory.table entry 0)) (next_page x.state.registers.pages x.state.registers.first x.state.registers.used)
+  choice-is : page-choice ≡ cond (needed_at w place) (Some (get_or x.memory.table entry 0)) (next_page x.state.registers.pages x.state.registers.first x.state.registers.used)
   unfolding page_for
   choice-is =
       (λ i. at (first-is i) (same-used i) (sym cmf-frame i))
-      ∙ ap (λ (t : Bool). cond t (At (get_or x.memory.table entry 0)) (next_page x.state.registers.pages x.state.registers.first x.state.registers.used)) owning-is
+      ∙ ap (λ (t : Bool). cond t (Some (get_or x.memory.table entry 0)) (next_page x.state.registers.pages x.state.registers.first x.state.registers.used)) owning-is
 
   many_is : used-choice ≡ cond (needed_at w place) x.state.registers.used (min x.state.registers.pages (x.state.registers.used + 1))
   unfolding used_for
@@ -258,15 +257,15 @@ module _ (x : Storage) (q : WellStore x) (l : ℕ) (b : l < x.state.registers.li
       (λ i. many (first-is i) (same-used i) (sym cmf-frame i))
       ∙ ap (λ (t : Bool). cond t x.state.registers.used (min x.state.registers.pages (x.state.registers.used + 1))) owning-is
 
-  pub chosen : (p : ℕ) → page-choice ≡ At p → Chosen p used-choice
+  pub chosen : (p : ℕ) → page-choice ≡ Some p → Chosen p used-choice
   unfolding next_page
   chosen p e = go (needed_at w place) refl (dec_lt x.state.registers.used x.state.registers.pages) (sym choice-is ∙ e) many_is
     where
-      next : Bool → Found
-      next u = cond u (At (nth_page x.state.registers.pages x.state.registers.first x.state.registers.used)) Nothing
+      next : Bool → Option ℕ
+      next u = cond u (Some (nth_page x.state.registers.pages x.state.registers.first x.state.registers.used)) None
 
       go : (t : Bool) → needed_at w place ≡ t → Dec (x.state.registers.used < x.state.registers.pages)
-          → cond t (At (get_or x.memory.table entry 0)) (next (ltb x.state.registers.used x.state.registers.pages)) ≡ At p
+          → cond t (Some (get_or x.memory.table entry 0)) (next (ltb x.state.registers.used x.state.registers.pages)) ≡ Some p
           → used-choice ≡ cond t x.state.registers.used (min x.state.registers.pages (x.state.registers.used + 1)) → Chosen p used-choice
       go true d r f m = subst (λ (u : ℕ). Chosen p u) (sym m) (subst (λ (y : ℕ). Chosen y x.state.registers.used) (at_same f) (chosen-own d))
       go false d (yes room) f m =
@@ -275,15 +274,15 @@ module _ (x : Storage) (q : WellStore x) (l : ℕ) (b : l < x.state.registers.li
           (subst (λ (y : ℕ). Chosen y (x.state.registers.used + 1)) (at_same (sym (ap next (lt-ltb x.state.registers.used x.state.registers.pages room)) ∙ f)) (chosen-next d room))
       go false d (no full) f m = absurd (at_some (sym f ∙ ap next (le-ltb x.state.registers.used x.state.registers.pages (omega arith))))
 
-  pub none-chosen : page-choice ≡ Nothing → none_free ≡ true
+  pub none-chosen : page-choice ≡ None → none_free ≡ true
   unfolding next_page
   none-chosen e = go (needed_at w place) refl (dec_lt x.state.registers.used x.state.registers.pages) (sym choice-is ∙ e)
     where
-      next : Bool → Found
-      next u = cond u (At (nth_page x.state.registers.pages x.state.registers.first x.state.registers.used)) Nothing
+      next : Bool → Option ℕ
+      next u = cond u (Some (nth_page x.state.registers.pages x.state.registers.first x.state.registers.used)) None
 
       go : (t : Bool) → needed_at w place ≡ t → Dec (x.state.registers.used < x.state.registers.pages)
-          → cond t (At (get_or x.memory.table entry 0)) (next (ltb x.state.registers.used x.state.registers.pages)) ≡ Nothing → none_free ≡ true
+          → cond t (Some (get_or x.memory.table entry 0)) (next (ltb x.state.registers.used x.state.registers.pages)) ≡ None → none_free ≡ true
       go true d r f = absurd (at_some f)
       go false d (yes room) f = absurd (at_some (sym (ap next (lt-ltb x.state.registers.used x.state.registers.pages room)) ∙ f))
       go false d (no full) f =

@@ -1,5 +1,6 @@
 -- WRITE to a line that the cache holds with CMF as its frame keeps its promise: what the short way leaves is what the long one would. Assumes
 -- nothing.
+use Rattle.std.specs.Prelude.{Option, Some, None}
 use mathlib.Core.Path.{◌≡◌, refl, sym, ◌∙◌, ap, ap₂, subst}
 use mathlib.Core.Bool.{Bool, true, false, cond}
 use mathlib.Core.List.{List}
@@ -23,8 +24,6 @@ use Rattle.rules.proofs.Chain.{Placed}
 use Rattle.rules.proofs.Line.{length-edit}
 use Rattle.frames.specs.Circle.{index_of}
 use Rattle.frames.proofs.Circle.{index-frame}
-use Rattle.numbers.specs.declared.Found.{Found}
-use Rattle.numbers.specs.declared.Found.TheVariants.{At, Nothing}
 use Rattle.lists.specs.Lines.{line_at, paste_line}
 use Rattle.lists.proofs.Lines.{length-written, past-written}
 use Rattle.written.specs.declared.Shape.{Shape}
@@ -34,13 +33,10 @@ use Rattle.written.proofs.Renewing.{renewed-written}
 use Rattle.pages.specs.Lines.{page_line, with_page_line}
 use Rattle.pages.specs.Table.{needed_at, entry_at}
 use Rattle.pages.proofs.Needs.{effective-needed}
-use Rattle.cache.specs.declared.Entry.{Entry}
-use Rattle.cache.specs.declared.Entry.TheVariants.{Hit}
 use Rattle.cache.specs.Entries.{cache_of, bytes_in, found, of_frame, held_frame, FoundAt}
 use Rattle.cache.specs.Steps.{placed_in}
 use Rattle.cache.proofs.Hits.{found_at, of-hit}
 use Rattle.cache.proofs.Uses.{hit-edited}
-use Rattle.versions.specs.declared.Spot.TheVariants.{Page, Archive}
 use Rattle.versions.specs.Newest.{page_of, spot_of, content_of, number_of}
 use Rattle.versions.proofs.Finding.{entry-within}
 use Rattle.storage.specs.declared.Registers.{Registers}
@@ -119,19 +115,19 @@ module _ (x : Storage) (q : WellStore x) (l : ℕ) (b : l < x.state.registers.li
   number : number_of x.state.registers.frames x.state.registers.omf (newest x fq l b) ≡ x.state.registers.cmf
   number = number-newest x fq l b ∙ own
 
-  newest-current : newest x fq l b ≡ At (n - 1)
+  newest-current : newest x fq l b ≡ Some (n - 1)
   unfolding number_of
   newest-current = go (newest x fq l b) refl number
     where
-      go : (r : Found) → newest x fq l b ≡ r → number_of x.state.registers.frames x.state.registers.omf r ≡ x.state.registers.cmf → newest x fq l b ≡ At (n - 1)
-      go (At i) e f =
+      go : (r : Option ℕ) → newest x fq l b ≡ r → number_of x.state.registers.frames x.state.registers.omf r ≡ x.state.registers.cmf → newest x fq l b ≡ Some (n - 1)
+      go (Some i) e f =
           let few : i < x.state.registers.frames = omega (arith, (newest-facts x fq l b i e).below, lim.live_most) in
           let same : i ≡ n - 1 =
           sym (index-frame x.state.registers.frames x.state.registers.omf lim.fits.omf_below i few)
           ∙ (ap (index_of x.state.registers.frames x.state.registers.omf) f ∙ cmf-index x q l b)
           in
-          e ∙ ap At same
-      go Nothing e f = absurd (omega (arith, f, lim.fits.cmf_below, lim.good.frames_to))
+          e ∙ ap Some same
+      go None e f = absurd (omega (arith, f, lim.fits.cmf_below, lim.good.frames_to))
 
   pub bit-current : effective (written_in x) (n - 1) l ≡ true
   bit-current = (newest-facts x fq l b (n - 1) newest-current).passes
@@ -147,8 +143,8 @@ module _ (x : Storage) (q : WellStore x) (l : ℕ) (b : l < x.state.registers.li
   pub page-current : page_line x.memory.pool current-page (l % 8) ≡ latest_in x l
   unfolding content_of spot_of page_of
   page-current =
-      sym (ap (λ (t : Bool). content_of x.memory.archive x.memory.pool l (cond t (Page current-page) Archive)) (lt-ltb current-page x.state.registers.pages below-pages))
-      ∙ (ap (λ (r : Found). content_of x.memory.archive x.memory.pool l (spot_of x.state.registers.lines x.state.registers.frames x.state.registers.omf x.state.registers.pages x.memory.table l r)) (sym newest-current)
+      sym (ap (λ (t : Bool). content_of x.memory.archive x.memory.pool l (cond t (Some current-page) None)) (lt-ltb current-page x.state.registers.pages below-pages))
+      ∙ (ap (λ (r : Option ℕ). content_of x.memory.archive x.memory.pool l (spot_of x.state.registers.lines x.state.registers.frames x.state.registers.omf x.state.registers.pages x.memory.table l r)) (sym newest-current)
       ∙ content-latest x fq l b)
 
   pub named-current : named_page x.state.registers x.memory.table l ≡ current-page
@@ -164,8 +160,8 @@ module _ (x : Storage) (q : WellStore x) (l : ℕ) (b : l < x.state.registers.li
       effective-needed (written_in x) (n - 1) l lim.good.lines_to lim.fits.omf_below (omega (arith, lim.live_some, lim.live_most)) block bit-current
 
 -- Once WRITE is admitted and an entry holds the line with CMF as its frame:
-module _ (x : Storage) (wd a v r : ℕ) (let-in : admitted_in x 0 ≡ 0) (own : r ≡ write_refusal (settings_in x.state) wd a v 0) (z : r ≡ 0) (f : Entry)
-    (f-is : f ≡ found x.state.cache (line_of a)) (own-frame : Entry) (own_is : own-frame ≡ of_frame x.state.cache.origins x.state.registers.cmf f) (e : ℕ) (hit : own-frame ≡ Hit e) where
+module _ (x : Storage) (wd a v r : ℕ) (let-in : admitted_in x 0 ≡ 0) (own : r ≡ write_refusal (settings_in x.state) wd a v 0) (z : r ≡ 0) (f : Option ℕ)
+    (f-is : f ≡ found x.state.cache (line_of a)) (own-frame : Option ℕ) (own_is : own-frame ≡ of_frame x.state.cache.origins x.state.registers.cmf f) (e : ℕ) (hit : own-frame ≡ Some e) where
   abbrev l : ℕ
   l = line_of a
 
@@ -248,7 +244,7 @@ module _ (x : Storage) (wd a v r : ℕ) (let-in : admitted_in x 0 ≡ 0) (own : 
 
     -- What it is on well-formed storage.
     module _ (q : WellStore x) where
-      here : (found x.state.cache l ≡ Hit e) × (held_frame x.state.cache e ≡ g.cmf)
+      here : (found x.state.cache l ≡ Some e) × (held_frame x.state.cache e ≡ g.cmf)
       here = let o = of-hit x.state.cache.origins g.cmf e f (sym own_is ∙ hit) in (sym f-is ∙ o.0, o.1)
 
       there : FoundAt x.state.cache l e

@@ -1,4 +1,5 @@
 -- Where the newest version of a line stands and what it is: on well-formed storage the code finds what Figure 2 does. Assumes nothing.
+use Rattle.std.specs.Prelude.{Option, Some, None}
 use mathlib.Core.Path.{◌≡◌, refl, sym, ◌∙◌, ap, ap₂}
 use mathlib.Core.Bool.{Bool, true, false, cond, not, ◌&&◌, ◌||◌}
 use mathlib.Core.Option.{none, some}
@@ -19,8 +20,6 @@ use Rattle.rules.specs.Promise.{seen_of}
 use Rattle.rules.proofs.History.{version_line}
 use Rattle.frames.specs.Circle.{frame_at}
 use Rattle.numbers.specs.Search.{greatest}
-use Rattle.numbers.specs.declared.Found.{Found}
-use Rattle.numbers.specs.declared.Found.TheVariants.{At, Nothing}
 use Rattle.frames.proofs.Circle.{frame_below}
 use Rattle.numbers.proofs.Search.{Greatest, greatest-found}
 use Rattle.written.specs.Bits.{effective, newest_from}
@@ -31,12 +30,9 @@ use Rattle.pages.specs.Ring.{WellRing}
 use Rattle.pages.specs.Flags.{collected_at}
 use Rattle.pages.proofs.Needs.{effective-needed}
 use Rattle.cache.specs.Entries.{found, is_hit}
-use Rattle.cache.specs.declared.Entry.{Entry}
-use Rattle.cache.specs.declared.Entry.TheVariants.{Hit, Miss}
 use Rattle.cache.specs.Shown.{shown}
 use Rattle.cache.specs.Steps.{archive_frame}
 use Rattle.cache.proofs.Hits.{hit-shown, found_at}
-use Rattle.versions.specs.declared.Spot.TheVariants.{Page, Archive}
 use Rattle.versions.specs.declared.Version.{Version}
 use Rattle.versions.specs.declared.Origin.TheVariants as origin
 use Rattle.versions.specs.Newest.{page_of, spot_of, content_of, number_of, back_in, origin_of, is_empty, empty_or, newest_of, latest_from, latest_held, latest_of}
@@ -80,14 +76,14 @@ module _ (x : Storage) (q : Findable x) where
     abbrev bits : ℕ → Bool
     bits i = effective (written_in x) i l
 
-    abbrev pub newest : Found
+    abbrev pub newest : Option ℕ
     newest = newest_from (written_in x) l (n - 1)
 
     newest-is : newest ≡ greatest n bits
     unfolding newest_from
     newest-is = ap (λ (m : ℕ). greatest m bits) (omega (arith, lim.live_some))
 
-    pub newest-facts : (i : ℕ) → newest ≡ At i → Greatest n bits i
+    pub newest-facts : (i : ℕ) → newest ≡ Some i → Greatest n bits i
     newest-facts i e = greatest-found n bits i (sym newest-is ∙ e)
 
     -- its bytes
@@ -98,14 +94,14 @@ module _ (x : Storage) (q : Findable x) where
         ∙ (version-back n bits (λ i. version_at x i l) (archive_in x l) ∙ ap (version_of (λ i. version_at x i l) (archive_in x l)) (sym newest-is))
 
     -- a version that a search found stands where the code looks for it
-    pub version-content : (r : Found) → ((i : ℕ) → r ≡ At i → (i < n) × (bits i ≡ true))
+    pub version-content : (r : Option ℕ) → ((i : ℕ) → r ≡ Some i → (i < n) × (bits i ≡ true))
         → content_of x.memory.archive x.memory.pool l (spot_of x.state.registers.lines x.state.registers.frames x.state.registers.omf x.state.registers.pages x.memory.table l r)
         ≡ version_of (λ i. version_at x i l) (archive_in x l) r
     unfolding content_of spot_of version_of version_at archive_in page_of
-    version-content (At i) h =
+    version-content (Some i) h =
         let g = h i refl in
-        ap (λ (t : Bool). content_of x.memory.archive x.memory.pool l (cond t (Page (page i l)) Archive)) (lt-ltb (page i l) x.state.registers.pages (page-known i l g.0 b g.1))
-    version-content Nothing h = sym (ap (λ (t : Bool). cond t (archive_line x.memory.archive l) zeros) (lt-ltb l x.state.registers.lines b))
+        ap (λ (t : Bool). content_of x.memory.archive x.memory.pool l (cond t (Some (page i l)) None)) (lt-ltb (page i l) x.state.registers.pages (page-known i l g.0 b g.1))
+    version-content None h = sym (ap (λ (t : Bool). cond t (archive_line x.memory.archive l) zeros) (lt-ltb l x.state.registers.lines b))
 
     pub content-latest : content_of x.memory.archive x.memory.pool l (spot_of x.state.registers.lines x.state.registers.frames x.state.registers.omf x.state.registers.pages x.memory.table l newest)
         ≡ latest_in x l
@@ -117,24 +113,24 @@ module _ (x : Storage) (q : Findable x) where
         found-same n (λ j. is_written (frame_in x j l)) (λ j. bits (n - 1 - j)) (λ j h. sym (written-effective x j l h b))
         ∙ (found_back n bits ∙ ap (back_of n) (sym newest-is))
 
-    numbered : (r : Found) → ((i : ℕ) → r ≡ At i → Greatest n bits i) → number_of x.state.registers.frames x.state.registers.omf r ≡ frame_number x.state (back_of n r)
+    numbered : (r : Option ℕ) → ((i : ℕ) → r ≡ Some i → Greatest n bits i) → number_of x.state.registers.frames x.state.registers.omf r ≡ frame_number x.state (back_of n r)
     unfolding number_of frame_number back_of
-    numbered (At i) h =
+    numbered (Some i) h =
         let g = h i refl in
         ap (frame_at x.state.registers.frames x.state.registers.omf) (turned n i g.below)
       where
         turned : (n i : ℕ) → i < n → i ≡ n - 1 - (n - 1 - i)
         turned n i b = omega arith
-    numbered Nothing h = refl
+    numbered None h = refl
 
     pub number-newest : number_of x.state.registers.frames x.state.registers.omf newest ≡ newest_frame x l
     unfolding newest_frame
     number-newest = numbered newest newest-facts ∙ ap (frame_number x.state) (sym origin-found)
 
-    backed : (r : Found) → origin_of (back_in n r) ≡ from (back_of n r)
+    backed : (r : Option ℕ) → origin_of (back_in n r) ≡ from (back_of n r)
     unfolding origin_of back_in back_of
-    backed (At i) = refl
-    backed Nothing = refl
+    backed (Some i) = refl
+    backed None = refl
 
     -- The version found by the code is the most recent one, with its frame and its origin,
     pub newest-told : (v : Version) → v ≡ newest_of (written_in x) x.state.registers.pages n x.memory.archive x.memory.pool x.memory.table l
@@ -151,10 +147,10 @@ module _ (x : Storage) (q : WellStore x) (l : ℕ) (b : l < x.state.registers.li
   unfolding latest_held latest_from origin_of is_hit
   latest-told v e = go (found x.state.cache l) refl
     where
-      go : (r : Entry) → found x.state.cache l ≡ r
+      go : (r : Option ℕ) → found x.state.cache l ≡ r
           → (v.content ≡ latest_in x l) × (v.frame ≡ newest_frame x l)
           × (origin_of v.origin ≡ cond (holds (shown x.state.cache) l) from_cache (from ((seen_of store x).origin l)))
-      go (Hit h) d =
+      go (Some h) d =
           let f = found_at x.state.cache l h d in
           let c = q.coherent h f.valid in
           let is = e ∙ ap (latest_from x.state.cache.origins x.state.cache.bytes _) d in (
@@ -162,7 +158,7 @@ module _ (x : Storage) (q : WellStore x) (l : ℕ) (b : l < x.state.registers.li
             ap (λ (w : Version). w.frame) is ∙ (c.1 ∙ ap (newest_frame x) f.line),
             ap (λ (w : Version). origin_of w.origin) is ∙ sym (ap (λ (t : Bool). cond t from_cache (from ((seen_of store x).origin l))) (sym (hit-shown x.state.cache l) ∙ ap is_hit d)),
           )
-      go Miss d =
+      go None d =
           let r = newest-told x (well-findable x q) l b v (e ∙ ap (latest_from x.state.cache.origins x.state.cache.bytes _) d) in
           (r.0, r.1, r.2 ∙ sym (ap (λ (t : Bool). cond t from_cache (from ((seen_of store x).origin l))) (sym (hit-shown x.state.cache l) ∙ ap is_hit d)))
 

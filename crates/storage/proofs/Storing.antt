@@ -1,4 +1,5 @@
 -- WRITE keeps its promise, in the form in which the code has what is left. Assumes nothing.
+use Rattle.std.specs.Prelude.{Option, Some, None}
 use mathlib.Core.Path.{◌≡◌, refl, sym, ◌∙◌, ap, ap₂, subst}
 use mathlib.Core.Logic.{◌≢◌}
 use mathlib.Core.Bool.{true, false}
@@ -21,8 +22,6 @@ use Rattle.rules.specs.Promise.{Promise, Followed, settings_for}
 use Rattle.rules.proofs.Promise.{lacking-own, refuse, accept}
 use Rattle.rules.proofs.Chain.{Placed}
 use Rattle.frames.specs.Circle.{frame_at}
-use Rattle.numbers.specs.declared.Found.{Found}
-use Rattle.numbers.specs.declared.Found.TheVariants.{At, Nothing}
 use Rattle.frames.proofs.Circle.{frame_below}
 use Rattle.lists.proofs.Lines.{length-written, past-written}
 use Rattle.written.specs.declared.Shape.{Shape}
@@ -32,7 +31,6 @@ use Rattle.pages.specs.Lines.{with_page_line}
 use Rattle.pages.specs.declared.Ring.{Ring}
 use Rattle.pages.specs.Table.{place_at, entry_at}
 use Rattle.cache.specs.declared.Cache.{Cache}
-use Rattle.cache.specs.declared.Entry.{Entry}
 use Rattle.cache.specs.Entries.{hit_in}
 use Rattle.cache.specs.Steps.{placed_in}
 use Rattle.versions.specs.declared.Version.{Version}
@@ -54,7 +52,7 @@ use Rattle.storage.proofs.Choosing.{Chosen, page_below, chosen, none-chosen}
 use Rattle.storage.proofs.Writing.{stored-followed}
 
 -- What is left, in the form in which the code has it, which is by a shape.
-pub put-told : (x : Storage) (wd a v live page : ℕ) (shape : Shape) → shape ≡ shape_at x.state.registers → (entry : Entry)
+pub put-told : (x : Storage) (wd a v live page : ℕ) (shape : Shape) → shape ≡ shape_at x.state.registers → (entry : Option ℕ)
     → entry ≡ hit_in x.state.cache.held x.state.cache.valid (line_of a) → (latest : Version)
     → latest
     ≡ latest_from x.state.cache.origins x.state.cache.bytes
@@ -117,20 +115,20 @@ module _ (x : Storage) (wd a v r : ℕ) (let-in : admitted_in x 0 ≡ 0) (own : 
 
   -- None refused: the ring that the code sees, the page that it asks for, and how many are in use then.
   module _ (z : r ≡ 0) (ring : Ring) (ring-is : ring ≡ ring_at x.state.registers) where
-    abbrev choice : Found
+    abbrev choice : Option ℕ
     choice = page_for ring.shape.lines ring.pages ring.first ring.used x.memory.table x.memory.owners x.state.registers.cmf l
 
     abbrev used-next : ℕ
     used-next = used_for ring.shape.lines ring.pages ring.first ring.used x.memory.table x.memory.owners x.state.registers.cmf l
 
     -- the same by the registers
-    abbrev chosen-page : Found
+    abbrev chosen-page : Option ℕ
     chosen-page = page_for x.state.registers.lines x.state.registers.pages (ring_at x.state.registers).first (ring_at x.state.registers).used x.memory.table x.memory.owners x.state.registers.cmf l
 
     abbrev used-then : ℕ
     used-then = used_for x.state.registers.lines x.state.registers.pages (ring_at x.state.registers).first (ring_at x.state.registers).used x.memory.table x.memory.owners x.state.registers.cmf l
 
-    seen-choice : (picked : Found) → picked ≡ choice → picked ≡ chosen-page
+    seen-choice : (picked : Option ℕ) → picked ≡ choice → picked ≡ chosen-page
     seen-choice picked e = e ∙ ap (λ (y : Ring). page_for y.shape.lines y.pages y.first y.used x.memory.table x.memory.owners x.state.registers.cmf l) ring-is
 
     seen_next : (next : ℕ) → next ≡ used-next → next ≡ used-then
@@ -148,13 +146,13 @@ module _ (x : Storage) (wd a v r : ℕ) (let-in : admitted_in x 0 ≡ 0) (own : 
     room : Room (registers_in x.state) (lengths_in x.memory)
     room = place-room.0.room
 
-    page_few : (page : ℕ) → chosen-page ≡ At page → page < x.state.registers.pages
+    page_few : (page : ℕ) → chosen-page ≡ Some page → page < x.state.registers.pages
     page_few page found =
         page_below x.state.registers.lines x.state.registers.pages (ring_at x.state.registers).first (ring_at x.state.registers).used x.memory.table x.memory.owners x.state.registers.cmf l page
         (start-below x.state.registers.first x.state.registers.pages room.pages_from) found
 
     -- what the layers ask
-    pub asks_write : (picked : Found) → picked ≡ choice → (live page : ℕ) → live ≡ live_in x.state → picked ≡ At page → AsksWrite x wd a live page
+    pub asks_write : (picked : Option ℕ) → picked ≡ choice → (live page : ℕ) → live ≡ live_in x.state → picked ≡ Some page → AsksWrite x wd a live page
     unfolding elements
     asks_write picked picked-is live page e at-page =
         let newest = room-newest (registers_in x.state) (length x.memory.owners) x.memory.archive x.memory.pool x.memory.groups x.memory.table x.memory.history room live l e below in
@@ -176,7 +174,7 @@ module _ (x : Storage) (wd a v r : ℕ) (let-in : admitted_in x 0 ≡ 0) (own : 
         }
 
     -- 13
-    pub write-full : (picked : Found) → picked ≡ choice → picked ≡ Nothing → Writes x wd a v 13 x
+    pub write-full : (picked : Option ℕ) → picked ≡ choice → picked ≡ None → Writes x wd a v 13 x
     unfolding refusal act_refusal facts_by refused unless lacks
     write-full picked picked-is e = (
       subst (λ (n : ℕ). Promise store (ON (CHANGE (WRITE wd a v))) x (outcome n) x) (sym (decides 13))
@@ -184,12 +182,12 @@ module _ (x : Storage) (wd a v r : ℕ) (let-in : admitted_in x 0 ≡ 0) (own : 
       λ d. absurd (omega arith),
     )
 
-    module _ (picked : Found) (picked-is : picked ≡ choice) (page : ℕ) (at-page : picked ≡ At page) (live : ℕ) (live-is : live ≡ live_in x.state) (cache : Cache) (memory : Lent) (put : Put x wd a v live page cache memory)
+    module _ (picked : Option ℕ) (picked-is : picked ≡ choice) (page : ℕ) (at-page : picked ≡ Some page) (live : ℕ) (live-is : live ≡ live_in x.state) (cache : Cache) (memory : Lent) (put : Put x wd a v live page cache memory)
         (next : ℕ) (next_is : next ≡ used-next) where
       abbrev t : Storage
       t = record { state = state_of (given_registers x.state.registers next) cache; memory = memory }
 
-      found : chosen-page ≡ At page
+      found : chosen-page ≡ Some page
       found = sym (seen-choice picked picked-is) ∙ at-page
 
       below-pages : page < x.state.registers.pages

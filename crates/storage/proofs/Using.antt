@@ -1,4 +1,5 @@
 -- READ and LINE keep their promise. Assumes nothing.
+use Rattle.std.specs.Prelude.{Option, Some, None}
 use mathlib.Core.Path.{◌≡◌, refl, sym, ◌∙◌, ap, ap₂, subst}
 use mathlib.Core.Logic.{◌≢◌}
 use mathlib.Core.Bool.{cond}
@@ -23,17 +24,12 @@ use Rattle.rules.proofs.Chain.{Placed, place-passed}
 use Rattle.rules.proofs.Width.{line_below}
 use Rattle.rules.proofs.WellCache.{use-well}
 use Rattle.pages.specs.Lines.{page_line, archive_line}
-use Rattle.numbers.specs.declared.Found.{Found}
 use Rattle.written.specs.Bits.{newest_from}
 use Rattle.cache.specs.declared.Cache.{Cache}
-use Rattle.cache.specs.declared.Entry.{Entry}
-use Rattle.cache.specs.declared.Entry.TheVariants.{Hit, Miss}
 use Rattle.cache.specs.Entries.{cache_of, held_frame, held_bytes, found}
 use Rattle.cache.specs.Steps.{placed_in}
 use Rattle.cache.specs.Shown.{shown}
 use Rattle.cache.proofs.Uses.{placed-sized, placed-shown, placed-all, hit-placed}
-use Rattle.versions.specs.declared.Spot.{Spot}
-use Rattle.versions.specs.declared.Spot.TheVariants.{Page, Archive}
 use Rattle.versions.specs.declared.Version.{Version}
 use Rattle.versions.specs.declared.Origin as code
 use Rattle.versions.specs.declared.Origin.TheVariants as origin
@@ -156,11 +152,11 @@ module _ (x : Storage) (w a : ℕ) where
         read_told = let_through x (ON (READ w a)) r told z refl (record { registers = read-registers; followed = read_step }) refl refl
 
       -- What the code has of it: an entry of the cache that holds the line,
-      module _ (live : ℕ) (live-is : live ≡ live_in x.state) (f : Entry) (f-is : f ≡ found x.state.cache l) where
+      module _ (live : ℕ) (live-is : live ≡ live_in x.state) (f : Option ℕ) (f-is : f ≡ found x.state.cache l) where
         abbrev c : Cache
         c = x.state.cache
 
-        module _ (e : ℕ) (at_entry_lem : f ≡ Hit e) (content : Line) (content_is : content ≡ held_bytes c e) (value : ℕ)
+        module _ (e : ℕ) (at_entry_lem : f ≡ Some e) (content : Line) (content_is : content ≡ held_bytes c e) (value : ℕ)
             (valued : value ≡ value_at w (offset_of a) content) (frame : ℕ) (frame_is : frame ≡ held_frame c e)
             (named : code.Origin) (named-is : named ≡ empty_or (collected_at x.state.registers.pages x.memory.owners l) frame origin.Cache)
             (last : List ℕ) (last_is : last ≡ set c.last (e / 2) (e % 2)) where
@@ -190,7 +186,7 @@ module _ (x : Storage) (w a : ℕ) where
           )
 
         -- or the newest version, which the cache takes in.
-        module _ (missed : f ≡ Miss) (v : Version)
+        module _ (missed : f ≡ None) (v : Version)
             (v-is : v ≡ newest_of (written_in x) x.state.registers.pages live x.memory.archive x.memory.pool x.memory.table l) (value : ℕ)
             (valued : value ≡ value_at w (offset_of a) v.content)
             (named : code.Origin) (named-is : named ≡ empty_or (collected_at x.state.registers.pages x.memory.owners l) v.frame v.origin)
@@ -221,8 +217,8 @@ module _ (x : Storage) (l r : ℕ) (p : Pieces) (are : p ≡ lengths_in x.memory
   unfolding refusal act_refusal facts_by refused
   line_refused z = turned_down x (ON (LOOK (LINE l))) r told_line z
 
-  module _ (z : r ≡ 0) (live : ℕ) (live-is : live ≡ live_in x.state) (found : Found) (found-is : found ≡ newest_from (written_in x) l (live - 1))
-      (spot : Spot) (spot_is : spot ≡ spot_of x.state.registers.lines x.state.registers.frames x.state.registers.omf x.state.registers.pages x.memory.table l found) where
+  module _ (z : r ≡ 0) (live : ℕ) (live-is : live ≡ live_in x.state) (found : Option ℕ) (found-is : found ≡ newest_from (written_in x) l (live - 1))
+      (spot : Option ℕ) (spot_is : spot ≡ spot_of x.state.registers.lines x.state.registers.frames x.state.registers.omf x.state.registers.pages x.memory.table l found) where
     content_is : (bytes : List ℕ) → bytes ≡ content_of x.memory.archive x.memory.pool l spot → WellStore x → lending bytes ≡ accepted (seen_of store x) (holds (store.cache x)) (LOOK (LINE l))
     unfolding accepted seen_of figure_seen mrv latest_in
     content_is bytes e q = ap lending (e ∙ (ap (content_of x.memory.archive x.memory.pool l) (spot_is ∙ ap (spot_of x.state.registers.lines x.state.registers.frames x.state.registers.omf x.state.registers.pages x.memory.table l) (found-is ∙ ap (λ (m : ℕ). newest_from (written_in x) l (m - 1)) live-is)) ∙ content-latest x (well-findable x q) l (line-room (registers_in x.state) (lengths_in x.memory) r l told_line z).line_below))
@@ -231,10 +227,10 @@ module _ (x : Storage) (l r : ℕ) (p : Pieces) (are : p ≡ lengths_in x.memory
     unfolding refusal act_refusal facts_by refused
     told-so bytes e = let_through x (ON (LOOK (LINE l))) r told_line z refl (record { kept = refl; answer = content_is bytes e }) refl refl
 
-    pub line-in-page : (p : ℕ) (bytes : List ℕ) → spot ≡ Page p → bytes ≡ page_line x.memory.pool p (l % 8) → Promise store (ON (LOOK (LINE l))) x (lending bytes) x
+    pub line-in-page : (p : ℕ) (bytes : List ℕ) → spot ≡ Some p → bytes ≡ page_line x.memory.pool p (l % 8) → Promise store (ON (LOOK (LINE l))) x (lending bytes) x
     unfolding content_of
     line-in-page p bytes e d = told-so bytes (d ∙ sym (ap (content_of x.memory.archive x.memory.pool l) e))
 
-    pub line-in-archive : (bytes : List ℕ) → spot ≡ Archive → bytes ≡ archive_line x.memory.archive l → Promise store (ON (LOOK (LINE l))) x (lending bytes) x
+    pub line-in-archive : (bytes : List ℕ) → spot ≡ None → bytes ≡ archive_line x.memory.archive l → Promise store (ON (LOOK (LINE l))) x (lending bytes) x
     unfolding content_of
     line-in-archive bytes e d = told-so bytes (d ∙ sym (ap (content_of x.memory.archive x.memory.pool l) e))

@@ -1,10 +1,10 @@
 -- The tests of a state and of lent lengths: 5 and 6, which every call but RESET makes first.
 use Rattle.std.specs.Prelude.{ℕ, ◌+◌, ◌*◌, ◌/◌, ◌%◌, ◌≤◌, ◌<◌, ◌≡◌, true}
-use Rattle.rules.specs.Settings.{Pieces, within}
+use Rattle.rules.specs.Settings.{Settings, Pieces, within, enough}
 use Rattle.rules.specs.Line.{line_of, offset_of}
 use Rattle.rules.specs.declared.Need.{Need}
 use Rattle.rules.specs.Registers.{Registers, live_frames}
-use Rattle.rules.specs.Refusal.{facts_by, state_refusal}
+use Rattle.rules.specs.Refusal.{unless, facts_by, state_refusal}
 use Rattle.lists.specs.Lines.{AsksBytes}
 use Rattle.storage.specs.declared.Lengths.{Lengths}
 
@@ -31,6 +31,10 @@ in_elements need =
       owners = need.owners / 4;
       history = need.history / 2;
     }
+
+-- 6 behind the limits, with the number that settings outside them get: 4 if they are asked for, 5 in a state.
+abbrev pub settings_refusal : (outside : ℕ) → Settings → Pieces → ℕ
+settings_refusal outside s p = unless (within s) outside (unless (enough s p) 6 0)
 
 -- 5 and 6, before the rest of a call's chain.
 abbrev pub admitted : Registers → Pieces → (rest : ℕ) → ℕ

@@ -5,12 +5,13 @@ ghost use Rattle.std.specs.Prelude.{◌≡◌, true, ◌%◌, ◌^◌, ◌≤◌
 ghost use Rattle.rules.specs.Settings.{covers};
 ghost use Rattle.rules.specs.Sizing.{settings_of};
 ghost use Rattle.rules.specs.Refusal.{unless, is_width, asked_refusal, line_refusal, marked_refusal, place_refusal, write_refusal, list_refusal};
+ghost use Rattle.rules.specs.Refusals.{number, refusal_in};
 ghost use Rattle.storage.specs.Storage.{settings_at, registers_of, live_at, memory_of, lengths_in, start_in, shape_at, ring_at};
-ghost use Rattle.storage.specs.Admit.{pieces_of, in_elements, admitted, Room, LineRoom, PlaceRoom, FramesRoom, Admits};
+ghost use Rattle.storage.specs.Admit.{pieces_of, in_elements, settings_refusal, admitted, Room, LineRoom, PlaceRoom, FramesRoom, Admits};
 
 use cache::Cache;
 use pages::Ring;
-use rules::Need;
+use rules::{Need, Refusal};
 use written::Shape;
 
 // The settings L, F and P, the registers CMF and OMF, the tag that a write gives, and of the ring of pages its first one and how many are
@@ -35,28 +36,6 @@ pub struct Registers {
 pub struct State {
     pub registers: Registers,
     pub cache: Cache,
-}
-
-// The pages in use after a WRITE or a block of them, which leave the other registers as they are, and the refusal or 0.
-#[derive(Clone, Copy)]
-pub struct Given {
-    pub used: u32,
-    pub refusal: u32,
-}
-
-// The registers after a call, and its refusal or 0.
-#[derive(Clone, Copy)]
-pub struct Step {
-    pub registers: Registers,
-    pub refusal: u32,
-}
-
-// The state after a call, and its refusal or 0.
-#[repr(C)]
-#[derive(Clone, Copy)]
-pub struct Outcome {
-    pub state: State,
-    pub refusal: u32,
 }
 
 // The lengths of the lent pieces, in elements.
@@ -117,7 +96,7 @@ pub fn ring(registers: Registers) -> Ring
         shape: shape(registers),
         pages: registers.pages,
         first: start(registers.first, registers.pages),
-        used: numbers::min(registers.used, registers.pages),
+        used: registers.used.min(registers.pages),
     }
 }
 
@@ -147,80 +126,86 @@ fn is_covered(need: Need, lengths: Lengths) -> bool
     true
 }
 
-// 4 and 6, for the settings asked for.
-pub fn asked_refusal(lines: u32, frames: u32, pages: u32, lengths: Lengths) -> u32
-    ensures { result ≡ asked_refusal (pieces_of lengths) (settings_of lines frames pages) }
+// Whether the settings are within the limits, which a caller names that they may be outside of, and the lent pieces long enough.
+fn test_settings(
+    lines: u32,
+    frames: u32,
+    pages: u32,
+    lengths: Lengths,
+    outside: Refusal,
+) -> Result<(), Refusal>
+    ensures { refusal_in result ≡ settings_refusal (number outside) (settings_of lines frames pages) (pieces_of lengths) }
 {
     let need = rules::sizes(lines, frames, pages);
     if need.refusal != 0 {
-        return 4;
+        return Err(outside);
     }
-    if is_covered(need, lengths) {
-        return 0;
+    if !is_covered(need, lengths) {
+        return Err(Refusal::Memory);
     }
-    6
+    Ok(())
+}
+
+// 4 and 6, for the settings asked for.
+pub fn asked_refusal(lines: u32, frames: u32, pages: u32, lengths: Lengths) -> Result<(), Refusal>
+    ensures { refusal_in result ≡ asked_refusal (pieces_of lengths) (settings_of lines frames pages) }
+{
+    test_settings(lines, frames, pages, lengths, Refusal::Settings)
 }
 
 // 5 and 6, which every call but RESET tests first.
-pub fn admit(registers: Registers, lengths: Lengths) -> u32
-    ensures { Admits result (admitted (registers_of registers) (pieces_of lengths) 0) (Room (registers_of registers) (pieces_of lengths)) }
+pub fn admit(registers: Registers, lengths: Lengths) -> Result<(), Refusal>
+    ensures { Admits (refusal_in result) (admitted (registers_of registers) (pieces_of lengths) 0) (Room (registers_of registers) (pieces_of lengths)) }
 {
     if registers.frames <= registers.cmf {
-        return 5;
+        return Err(Refusal::State);
     }
     if registers.frames <= registers.omf {
-        return 5;
+        return Err(Refusal::State);
     }
-    let refusal = asked_refusal(registers.lines, registers.frames, registers.pages, lengths);
-    if refusal == 4 {
-        return 5;
-    }
-    refusal
+    test_settings(
+        registers.lines,
+        registers.frames,
+        registers.pages,
+        lengths,
+        Refusal::State,
+    )
 }
 
 // 5, 6 and 9: the tests of LINE and its companion.
-pub fn admit_line(registers: Registers, lengths: Lengths, line: u32) -> u32
-    ensures { Admits result (admitted (registers_of registers) (pieces_of lengths) (line_refusal (settings_at registers) line)) (LineRoom (registers_of registers) (pieces_of lengths) line) }
+pub fn admit_line(registers: Registers, lengths: Lengths, line: u32) -> Result<(), Refusal>
+    ensures { Admits (refusal_in result) (admitted (registers_of registers) (pieces_of lengths) (line_refusal (settings_at registers) line)) (LineRoom (registers_of registers) (pieces_of lengths) line) }
 {
-    let refusal = admit(registers, lengths);
-    if refusal != 0 {
-        return refusal;
-    }
+    admit(registers, lengths)?;
     if line < registers.lines {
-        return 0;
+        return Ok(());
     }
-    9
+    Err(Refusal::Place)
 }
 
 // 5, 6 and 12: the tests of MARK.
-pub fn admit_mark(registers: Registers, lengths: Lengths) -> u32
-    ensures { Admits result (admitted (registers_of registers) (pieces_of lengths) (unless (ltb (live_at registers) registers.frames) 12 0)) (Room (registers_of registers) (pieces_of lengths)) }
+pub fn admit_mark(registers: Registers, lengths: Lengths) -> Result<(), Refusal>
+    ensures { Admits (refusal_in result) (admitted (registers_of registers) (pieces_of lengths) (unless (ltb (live_at registers) registers.frames) 12 0)) (Room (registers_of registers) (pieces_of lengths)) }
 {
-    let refusal = admit(registers, lengths);
-    if refusal != 0 {
-        return refusal;
-    }
+    admit(registers, lengths)?;
     if frames::next(registers.frames, registers.cmf) == registers.omf {
-        return 12;
+        return Err(Refusal::Full);
     }
-    0
+    Ok(())
 }
 
 // 5, 6 and 11: the tests of ROLLBACK and ADVANCE.
-pub fn admit_frames(registers: Registers, lengths: Lengths, k: u32) -> u32
-    ensures { Admits result (admitted (registers_of registers) (pieces_of lengths) (marked_refusal (live_at registers) k)) (FramesRoom (registers_of registers) (pieces_of lengths) k) }
+pub fn admit_frames(registers: Registers, lengths: Lengths, k: u32) -> Result<(), Refusal>
+    ensures { Admits (refusal_in result) (admitted (registers_of registers) (pieces_of lengths) (marked_refusal (live_at registers) k)) (FramesRoom (registers_of registers) (pieces_of lengths) k) }
 {
-    let refusal = admit(registers, lengths);
-    if refusal != 0 {
-        return refusal;
-    }
+    admit(registers, lengths)?;
     if k == 0 {
-        return 11;
+        return Err(Refusal::Frames);
     }
     if k < frames::live(registers.frames, registers.omf, registers.cmf) {
-        return 0;
+        return Ok(());
     }
-    11
+    Err(Refusal::Frames)
 }
 
 // Whether a width is one of the three.
@@ -254,30 +239,32 @@ fn remainder(width: u32, address: u32) -> u32
 }
 
 // 7 to 9: the tests of a width and an address, which may be any number: nothing is added to it.
-fn place_refusal(registers: Registers, width: u32, address: u32) -> u32
+fn place_refusal(registers: Registers, width: u32, address: u32) -> Result<(), Refusal>
     requires { (8 ≤ registers.lines) × (registers.lines ≤ 4096) }
-    ensures { result ≡ place_refusal (settings_at registers) width address 0 }
+    ensures { refusal_in result ≡ place_refusal (settings_at registers) width address 0 }
 {
     if !is_width(width) {
-        return 7;
+        return Err(Refusal::Width);
     }
     if remainder(width, address) != 0 {
-        return 8;
+        return Err(Refusal::Alignment);
     }
     if 16 * registers.lines - width < address {
-        return 9;
+        return Err(Refusal::Place);
     }
-    0
+    Ok(())
 }
 
 // 5 to 9: the tests of READ.
-pub fn admit_place(registers: Registers, lengths: Lengths, width: u32, address: u32) -> u32
-    ensures { Admits result (admitted (registers_of registers) (pieces_of lengths) (place_refusal (settings_at registers) width address 0)) (PlaceRoom (registers_of registers) (pieces_of lengths) width address) }
+pub fn admit_place(
+    registers: Registers,
+    lengths: Lengths,
+    width: u32,
+    address: u32,
+) -> Result<(), Refusal>
+    ensures { Admits (refusal_in result) (admitted (registers_of registers) (pieces_of lengths) (place_refusal (settings_at registers) width address 0)) (PlaceRoom (registers_of registers) (pieces_of lengths) width address) }
 {
-    let refusal = admit(registers, lengths);
-    if refusal != 0 {
-        return refusal;
-    }
+    admit(registers, lengths)?;
     place_refusal(registers, width, address)
 }
 
@@ -302,30 +289,34 @@ fn is_value(width: u32, value: u32) -> bool
 }
 
 // 7 to 10: the tests of WRITE, once it is past 5 and 6, that come before 13.
-pub fn write_refusal(registers: Registers, width: u32, address: u32, value: u32) -> u32
+pub fn write_refusal(
+    registers: Registers,
+    width: u32,
+    address: u32,
+    value: u32,
+) -> Result<(), Refusal>
     requires { (8 ≤ registers.lines) × (registers.lines ≤ 4096) }
-    ensures { result ≡ write_refusal (settings_at registers) width address value 0 }
+    ensures { refusal_in result ≡ write_refusal (settings_at registers) width address value 0 }
 {
-    let refusal = place_refusal(registers, width, address);
-    if refusal != 0 {
-        return refusal;
-    }
+    place_refusal(registers, width, address)?;
     if is_value(width, value) {
-        return 0;
+        return Ok(());
     }
-    10
+    Err(Refusal::Value)
 }
 
 // 5, 6 and 14: the tests of a block of writes, with so many items and room for so many answers.
-pub fn admit_write_block(registers: Registers, lengths: Lengths, items: usize, room: usize) -> u32
-    ensures { result ≡ admitted (registers_of registers) (pieces_of lengths) (list_refusal items room) }
+pub fn admit_write_block(
+    registers: Registers,
+    lengths: Lengths,
+    items: usize,
+    room: usize,
+) -> Result<(), Refusal>
+    ensures { refusal_in result ≡ admitted (registers_of registers) (pieces_of lengths) (list_refusal items room) }
 {
     let earlier = admit(registers, lengths);
-    if earlier != 0 {
-        return earlier;
-    }
     if room < items {
-        return 14;
+        return earlier.and(Err(Refusal::Answers));
     }
-    0
+    earlier
 }

@@ -2,42 +2,48 @@
 // done here; the other calls are those of `access`, `writing`, `write_blocks` and `marks`, which take the cache's arrays where they lie.
 #![tactic(auto)]
 
-ghost use Rattle.std.specs.Prelude.{◌≡◌};
-ghost use Rattle.rules.specs.Call.Answer.{outcome, lending, counting, verdict};
+ghost use Rattle.std.specs.Prelude.{◌≡◌, false};
+ghost use Rattle.std.specs.Result.{result_unwrap_or};
+ghost use Rattle.rules.specs.Call.Answer.{outcome, lending, verdict};
 ghost use Rattle.rules.specs.Call.Look.{LINE, LINE_REFUSAL, COUNTS};
 ghost use Rattle.rules.specs.Call.Act.{LOOK};
 ghost use Rattle.rules.specs.Call.Call.{CHECK, ON};
 ghost use Rattle.rules.specs.Promise.{Promise};
-ghost use Rattle.versions.specs.Newest.{origin_of};
+ghost use Rattle.rules.specs.Refusals.{refusal_in};
 ghost use Rattle.wellformed.specs.Decision.{Decides};
 ghost use Rattle.storage.specs.Storage.{registers_in, memory_of, lengths_in, storage_of, WellStore, store};
 ghost use Rattle.storage.specs.Admit.{admitted};
 ghost use Rattle.storage.specs.Steps.{fresh_state};
 ghost use Rattle.storage.specs.Clauses.{Resets, Writes, WritesBlock, Reads, Marks, RollsBack, Advances};
 ghost use Rattle.write_blocks.specs.Items.{items_of};
+ghost use Rattle.marks.specs.Counting.{counts_in};
+ghost use Rattle.store.specs.Reading.{value_in, origin_in, state_in};
 
 use cache::Cache;
 pub use marks::Counted;
 use pages::Ring;
-pub use rules::{Need, sizes};
-pub use storage::{Outcome, Registers, State};
+pub use rules::{Need, Refusal, refusal_number, sizes};
+pub use storage::{Registers, State};
 pub use versions::Origin;
 use written::Shape;
 
-// The value of a read and its origin, with the refusal or 0.
+// The memory that a caller lends, piece by piece, as one value.
+#[derive(Drop)]
+pub struct Memory<'a> {
+    pub archive: &'a mut [u8],
+    pub pool: &'a mut [u8],
+    pub groups: &'a mut [u32],
+    pub table: &'a mut [u16],
+    pub owners: &'a mut [u32],
+    pub history: &'a mut [u16],
+}
+
+// The state after a read, the value and its origin.
 #[derive(Clone, Copy)]
 pub struct Reading {
     pub state: State,
-    pub refusal: u32,
     pub value: u32,
     pub origin: Origin,
-}
-
-// CHECK's answer, with the refusal or 0.
-#[derive(Clone, Copy)]
-pub struct Verdict {
-    pub refusal: u32,
-    pub yes: bool,
 }
 
 // The blank state, which holds no store: L is 0. Every call but RESET refuses it with 5.
@@ -79,17 +85,14 @@ pub fn reset(
     lines: u32,
     frames: u32,
     pages: u32,
-) -> Outcome
+) -> Result<State, Refusal>
     ensures { Resets
         (storage_of state archive.old pool.now groups.old table.now owners.old history.old)
-        lines frames pages result.refusal
-        (storage_of result.state archive.new pool.now groups.new table.now owners.new history.new) }
+        lines frames pages (refusal_in result)
+        (storage_of (result_unwrap_or result state) archive.new pool.now groups.new table.now owners.new history.new) }
 {
     let lengths = storage::measure(archive, pool, groups, table, owners, history);
-    let refusal = storage::asked_refusal(lines, frames, pages, lengths);
-    if refusal != 0 {
-        return Outcome { state, refusal };
-    }
+    storage::asked_refusal(lines, frames, pages, lengths)?;
     versions::zero(archive, lines);
     let shape = Shape {
         lines,
@@ -98,10 +101,7 @@ pub fn reset(
     };
     written::reset(groups, history, shape);
     pages::flags::clear(owners, pages, lines);
-    Outcome {
-        state: fresh(lines, frames, pages),
-        refusal: 0,
-    }
+    Ok(fresh(lines, frames, pages))
 }
 
 // WRITE.
@@ -116,11 +116,11 @@ pub fn write(
     width: u32,
     address: u32,
     value: u32,
-) -> Outcome
+) -> Result<State, Refusal>
     ensures { Writes
         (storage_of state archive.now pool.old groups.old table.old owners.old history.now)
-        width address value result.refusal
-        (storage_of result.state archive.now pool.new groups.new table.new owners.new history.now) }
+        width address value (refusal_in result)
+        (storage_of (result_unwrap_or result state) archive.now pool.new groups.new table.new owners.new history.now) }
 {
     let cache = state.cache;
     let mut held = cache.held;
@@ -128,7 +128,7 @@ pub fn write(
     let mut valid = cache.valid;
     let mut bytes = cache.bytes;
     let mut last = cache.last;
-    let given = writing::write(
+    let used = writing::write(
         state.registers,
         &mut held,
         &mut origins,
@@ -144,9 +144,9 @@ pub fn write(
         width,
         address,
         value,
-    );
+    )?;
     let mut registers = state.registers;
-    registers.used = given.used;
+    registers.used = used;
     let after = Cache {
         held,
         origins,
@@ -154,13 +154,10 @@ pub fn write(
         bytes,
         last,
     };
-    Outcome {
-        state: State {
-            registers,
-            cache: after,
-        },
-        refusal: given.refusal,
-    }
+    Ok(State {
+        registers,
+        cache: after,
+    })
 }
 
 // A block of writes: three numbers an item, its width, address and value.
@@ -174,11 +171,11 @@ pub fn write_block(
     history: &[u16],
     items: &[u32],
     answers: &mut [u32],
-) -> Outcome
+) -> Result<State, Refusal>
     ensures { WritesBlock
         (storage_of state archive.now pool.old groups.old table.old owners.old history.now)
-        (items_of items.now) answers.old result.refusal answers.new
-        (storage_of result.state archive.now pool.new groups.new table.new owners.new history.now) }
+        (items_of items.now) answers.old (refusal_in result) answers.new
+        (storage_of (result_unwrap_or result state) archive.now pool.new groups.new table.new owners.new history.now) }
 {
     let cache = state.cache;
     let mut held = cache.held;
@@ -186,7 +183,7 @@ pub fn write_block(
     let mut valid = cache.valid;
     let mut bytes = cache.bytes;
     let mut last = cache.last;
-    let given = write_blocks::write_block(
+    let used = write_blocks::write_block(
         state.registers,
         &mut held,
         &mut origins,
@@ -201,9 +198,9 @@ pub fn write_block(
         history,
         items,
         answers,
-    );
+    )?;
     let mut registers = state.registers;
-    registers.used = given.used;
+    registers.used = used;
     let after = Cache {
         held,
         origins,
@@ -211,13 +208,10 @@ pub fn write_block(
         bytes,
         last,
     };
-    Outcome {
-        state: State {
-            registers,
-            cache: after,
-        },
-        refusal: given.refusal,
-    }
+    Ok(State {
+        registers,
+        cache: after,
+    })
 }
 
 // READ.
@@ -231,11 +225,11 @@ pub fn read(
     history: &[u16],
     width: u32,
     address: u32,
-) -> Reading
+) -> Result<Reading, Refusal>
     ensures { Reads
         (storage_of state archive.now pool.now groups.now table.now owners.now history.now)
-        width address result.refusal result.value (origin_of result.origin)
-        (storage_of result.state archive.now pool.now groups.now table.now owners.now history.now) }
+        width address (refusal_in result) (value_in result) (origin_in result)
+        (storage_of (state_in state result) archive.now pool.now groups.now table.now owners.now history.now) }
 {
     let cache = state.cache;
     let mut held = cache.held;
@@ -258,7 +252,7 @@ pub fn read(
         history,
         width,
         address,
-    );
+    )?;
     let registers = state.registers;
     let after = Cache {
         held,
@@ -268,15 +262,14 @@ pub fn read(
         last,
     };
     let origin = reading.origin;
-    Reading {
+    Ok(Reading {
         state: State {
             registers,
             cache: after,
         },
-        refusal: reading.refusal,
         value: reading.value,
         origin,
-    }
+    })
 }
 
 // LINE.
@@ -317,10 +310,10 @@ pub fn line_refusal(
     owners: &[u32],
     history: &[u16],
     line: u32,
-) -> u32
+) -> Result<(), Refusal>
     ensures { Promise store (ON (LOOK (LINE_REFUSAL line)))
         (storage_of state archive.now pool.now groups.now table.now owners.now history.now)
-        (outcome result)
+        (outcome (refusal_in result))
         (storage_of state archive.now pool.now groups.now table.now owners.now history.now) }
 {
     access::line_refusal(
@@ -344,13 +337,13 @@ pub fn mark(
     table: &[u16],
     owners: &[u32],
     history: &[u16],
-) -> Outcome
+) -> Result<State, Refusal>
     ensures { Marks
         (storage_of state archive.now pool.now groups.now table.now owners.now history.now)
-        result.refusal
-        (storage_of result.state archive.now pool.now groups.now table.now owners.now history.now) }
+        (refusal_in result)
+        (storage_of (result_unwrap_or result state) archive.now pool.now groups.now table.now owners.now history.now) }
 {
-    let step = marks::mark(
+    let registers = marks::mark(
         state.registers,
         archive,
         pool,
@@ -358,13 +351,9 @@ pub fn mark(
         table,
         owners,
         history,
-    );
-    let registers = step.registers;
+    )?;
     let cache = state.cache;
-    Outcome {
-        state: State { registers, cache },
-        refusal: step.refusal,
-    }
+    Ok(State { registers, cache })
 }
 
 // ROLLBACK.
@@ -377,16 +366,16 @@ pub fn rollback(
     owners: &[u32],
     history: &mut [u16],
     k: u32,
-) -> Outcome
+) -> Result<State, Refusal>
     ensures { RollsBack
         (storage_of state archive.now pool.now groups.old table.now owners.now history.old)
-        k result.refusal
-        (storage_of result.state archive.now pool.now groups.new table.now owners.now history.new) }
+        k (refusal_in result)
+        (storage_of (result_unwrap_or result state) archive.now pool.now groups.new table.now owners.now history.new) }
 {
     let mut cache = state.cache;
     let origins = cache.origins;
     let mut valid = cache.valid;
-    let step = marks::rollback(
+    let registers = marks::rollback(
         state.registers,
         &origins,
         &mut valid,
@@ -397,13 +386,9 @@ pub fn rollback(
         owners,
         history,
         k,
-    );
+    )?;
     cache.valid = valid;
-    let registers = step.registers;
-    Outcome {
-        state: State { registers, cache },
-        refusal: step.refusal,
-    }
+    Ok(State { registers, cache })
 }
 
 // ADVANCE.
@@ -416,15 +401,15 @@ pub fn advance(
     owners: &mut [u32],
     history: &mut [u16],
     k: u32,
-) -> Outcome
+) -> Result<State, Refusal>
     ensures { Advances
         (storage_of state archive.old pool.now groups.old table.now owners.old history.old)
-        k result.refusal
-        (storage_of result.state archive.new pool.now groups.new table.now owners.new history.new) }
+        k (refusal_in result)
+        (storage_of (result_unwrap_or result state) archive.new pool.now groups.new table.now owners.new history.new) }
 {
     let mut cache = state.cache;
     let mut origins = cache.origins;
-    let step = marks::advance(
+    let registers = marks::advance(
         state.registers,
         &mut origins,
         archive,
@@ -434,13 +419,9 @@ pub fn advance(
         owners,
         history,
         k,
-    );
+    )?;
     cache.origins = origins;
-    let registers = step.registers;
-    Outcome {
-        state: State { registers, cache },
-        refusal: step.refusal,
-    }
+    Ok(State { registers, cache })
 }
 
 // COUNTS.
@@ -452,10 +433,10 @@ pub fn counts(
     table: &[u16],
     owners: &[u32],
     history: &[u16],
-) -> Counted
+) -> Result<Counted, Refusal>
     ensures { Promise store (ON (LOOK COUNTS))
         (storage_of state archive.now pool.now groups.now table.now owners.now history.now)
-        (counting result.refusal result.live result.pages)
+        (counts_in result)
         (storage_of state archive.now pool.now groups.now table.now owners.now history.now) }
 {
     marks::counts(
@@ -530,20 +511,14 @@ pub fn check(
     table: &[u16],
     owners: &[u32],
     history: &[u16],
-) -> Verdict
+) -> Result<bool, Refusal>
     ensures { Promise store CHECK
         (storage_of state archive.now pool.now groups.now table.now owners.now history.now)
-        (verdict result.refusal result.yes)
+        (verdict (refusal_in result) (result_unwrap_or result false))
         (storage_of state archive.now pool.now groups.now table.now owners.now history.now) }
 {
     let lengths = storage::measure(archive, pool, groups, table, owners, history);
-    let refusal = storage::admit(state.registers, lengths);
-    if refusal != 0 {
-        return Verdict {
-            refusal,
-            yes: false,
-        };
-    }
+    storage::admit(state.registers, lengths)?;
     let yes = is_well(state, archive, pool, groups, table, owners, history);
-    Verdict { refusal: 0, yes }
+    Ok(yes)
 }

@@ -1,41 +1,23 @@
--- One answer more in a tally, and what owning a tally tells of its counts. Assumes nothing.
-use mathlib.Core.Path.{◌≡◌, refl}
+-- One answer more in a tally. Assumes nothing.
+use mathlib.Core.Path.{◌≡◌}
 use mathlib.Core.Bool.{not}
-use Prim.Native.Nat.{ℕ, ◌+◌, ◌≤◌, ◌<◌, ◌^◌}
-use borrow.Author.Tests.{lt-ltb, le-ltb}
+use Prim.Native.Nat.{ℕ, ◌+◌, ◌-◌, ◌<◌, ◌^◌, min}
+use native.Mathlib.Decide.{dec_lt}
+use native.Mathlib.Omega.{arith}
+use borrow.Author.Tests.{lt-ltb, le-ltb, eq-eqb, ne_eqb}
 use lib.Dec.{T, eqb}
 use lib.Ieee.Bits.{is_true, is_false}
-use denote.Laws.{Is}
-use denote.Struct.Laws.{vals, owes, owed}
 use Rattle.tally.specs.declared.Tally.{Tally}
 use Rattle.tally.specs.Counts.{most, one_more, tally_of, tally_after}
-use Rattle.tally.specs.contracts.Tally.{the_type, the_row}
-use Rattle.tally.proofs.Tally.TheLaws.{the_laws}
 
--- The two ways of `one_more`.
-pub more-below : (n : ℕ) → n < most → n + 1 ≡ one_more n
+-- One more, as std's `saturating_add` gives it.
+pub saturated : (n : ℕ) → n < 2 ^ 64 → min (n + 1) (2 ^ 64 - 1) ≡ one_more n
 unfolding one_more
-more-below n h = simp (lt-ltb n most h)
-
-pub more-last : (n : ℕ) → most ≤ n → n ≡ one_more n
-unfolding one_more
-more-last n h = simp (le-ltb n most h)
-
--- What owning a tally tells: each count fits in 64 bits.
-abbrev pub Held : Tally → Type 0
-Held t = Is the_row t (vals the_type the_laws t)
-
-pub held : (a b : ℕ) → a < 2 ^ 64 → b < 2 ^ 64 → Held (tally_of a b)
-held a b h k = owes the_type the_laws (tally_of a b) ((refl, h), ((refl, k), tt))
-
-module _ {t : Tally} (is : Held t) where
-  pub oks-held : t.oks < 2 ^ 64
-  oks-held = (owed the_type the_laws t _ is).0.1
-
-  pub noes-held : t.noes < 2 ^ 64
-  noes-held = (owed the_type the_laws t _ is).1.0.1
-
-pub ruleset fits = (oks-held, noes-held)
+saturated n h = go (dec_lt n most)
+  where
+    go : Dec (n < most) → min (n + 1) (2 ^ 64 - 1) ≡ one_more n
+    go (yes k) = simp (lt-ltb n most k) (omega arith)
+    go (no k) = simp (le-ltb n most (omega arith)) (omega arith)
 
 -- What the test of the refusal n tells of the tally after it.
 module _ (t : Tally) (n : ℕ) where
@@ -46,3 +28,11 @@ module _ (t : Tally) (n : ℕ) where
   pub after-no : T (not (eqb n 0)) → tally_of t.oks (one_more t.noes) ≡ tally_after t n
   unfolding tally_after
   after-no is = simp (is_false (eqb n 0) is)
+
+-- The same with what the code tests and calls.
+module _ (t : Tally) (n more : ℕ) where
+  pub ok-more : t.oks < 2 ^ 64 → n ≡ 0 → more ≡ min (t.oks + 1) (2 ^ 64 - 1) → tally_of more t.noes ≡ tally_after t n
+  ok-more h is e = rw (e, saturated t.oks h) (after-ok t n (rw (eq-eqb n 0 is) tt))
+
+  pub no-more : t.noes < 2 ^ 64 → (n ≡ 0 → ⊥) → more ≡ min (t.noes + 1) (2 ^ 64 - 1) → tally_of t.oks more ≡ tally_after t n
+  no-more h isnt e = rw (e, saturated t.noes h) (after-no t n (rw (ne_eqb n 0 isnt) tt))

@@ -2,32 +2,23 @@
 #![tactic(auto)]
 
 ghost use Rattle.std.specs.Prelude.{◌≡◌};
-ghost use Rattle.tally.specs.Counts.{one_more, tally_after};
+ghost use Rattle.tally.specs.Counts.{tally_after};
 
-#[derive(Clone, Copy)]
+#[derive(Clone, Copy, PartialEq, Eq, Debug, Default)]
 pub struct Tally {
     pub oks: u64,
     pub noes: u64,
 }
 
-// One more; a count that stands at the last number stays.
-fn one_more(count: u64) -> u64
-    ensures { result ≡ one_more count }
-{
-    if count < 18446744073709551615 {
-        return count + 1;
-    }
-    count
-}
-
-// Adds an answer in place: an `ok`, of refusal 0, or a `no`.
+// Adds an answer in place: an `ok`, of refusal 0, or a `no`; a count that stands at the last number stays. (The refusal is a number, since
+// `tally_after`, of which the sessions' theorems speak, takes any.)
 fn add_answer(tally: &mut Tally, refusal: u32)
     ensures { tally.new ≡ tally_after tally.old refusal }
 {
     if refusal == 0 {
-        tally.oks = one_more(tally.oks);
+        tally.oks = tally.oks.saturating_add(1);
     } else {
-        tally.noes = one_more(tally.noes);
+        tally.noes = tally.noes.saturating_add(1);
     }
 }
 

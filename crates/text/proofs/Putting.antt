@@ -1,46 +1,15 @@
--- Text put into a buffer byte by byte. Assumes nothing.
-use mathlib.Core.Path.{◌≡◌, refl, sym, ◌∙◌, ap, subst}
+-- Text put into a buffer. Assumes nothing.
+use mathlib.Core.Path.{◌≡◌, sym, ◌∙◌, ap, subst}
 use mathlib.Core.Bool.{Bool, true, false, cond}
 use mathlib.Core.List.{[], ◌∷◌, ◌++◌, append_assoc}
-use Prim.Native.Nat.{ℕ, zero, suc, ◌+◌, ◌/◌, ◌%◌, ◌≤◌, ◌<◌}
+use Prim.Native.Nat.{ℕ, zero, suc, ◌+◌, ◌/◌, ◌%◌, ◌≤◌}
 use native.Mathlib.Omega.{arith}
 use lib.Dec.{ltb}
-use lib.ListN.{length, get_or, set, take, drop, length-append}
-use lib.Seq.{paste, paste-zero, paste-suc, length-paste, take-paste, drop-paste, take-length, drop-drop}
+use lib.ListN.{length, take, drop, length-append}
+use lib.Seq.{paste, paste-zero, length-paste, take-paste, drop-paste, take-length, drop-drop}
 use Rattle.text.specs.Parts.{Text}
 use Rattle.text.specs.Numbers.{digits_before, decimal}
 use Rattle.text.specs.Output.{Puts}
-
--- The buffer with the first i bytes put.
-pub record Putting (before : Text) (at : ℕ) (text : Text) (i : ℕ) (now : Text) : Type 0 where
-  pub room : at + length text ≤ length before
-  pub few : i ≤ length text
-  pub bytes : now ≡ paste before at text i
-
-pub putting-start : (before : Text) (at : ℕ) (text : Text) → at + length text ≤ length before → Putting before at text 0 before
-putting-start before at text h = record { room = h; few = omega arith; bytes = paste-zero before at text }
-
-module _ {before : Text} {at : ℕ} {text : Text} {i : ℕ} {now : Text} (p : Putting before at text i now) where
-  pub putting-length : length now ≡ length before
-  putting-length = ap length p.bytes ∙ length-paste before at text i (omega (arith, p.room, p.few)) p.few
-
-  pub putting-next : i < length text → Putting before at text (i + 1) (set now (at + i) (get_or text i 0))
-  putting-next h =
-      record {
-        room = p.room;
-        few = omega arith;
-        bytes =
-            ap (λ (xs : Text). set xs (at + i) (get_or text i 0)) p.bytes
-            ∙ (paste-suc before at text i 0 (omega (arith, p.room)) h ∙ ap (paste before at text) (one i));
-      }
-    where
-      one : (k : ℕ) → suc k ≡ k + 1
-      one k = omega arith
-
-  pub putting-end : length text ≤ i → Puts before at text now (at + length text)
-  putting-end h =
-      let all : i ≡ length text = omega (arith, p.few) in
-      record { ends = refl; bytes = p.bytes ∙ ap (paste before at text) all }
 
 -- What stands in the buffer up to the place behind the text.
 pub puts-head : (before : Text) (at : ℕ) (text after : Text) (behind : ℕ) → at ≤ length before → Puts before at text after behind

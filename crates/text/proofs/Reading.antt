@@ -1,18 +1,18 @@
 -- Reading a number digit by digit. Assumes nothing.
 use mathlib.Core.Path.{◌≡◌, refl, sym, ◌∙◌, ap, ap₂}
-use mathlib.Core.Logic.{◌≢◌}
-use mathlib.Core.Bool.{Bool, true, false, not, cond, ◌&&◌, and-false, false≢true}
+use mathlib.Core.Logic.{◌≢◌, ◌⊎◌, inl, inr}
+use mathlib.Core.Bool.{Bool, true, false, cond, ◌&&◌, and-false}
 use mathlib.Core.List.{◌∷◌}
+use Rattle.std.proofs.Common.{Some, None, Result, Ok, Err}
+use Rattle.std.specs.Result.{OkIff, result_ok}
 use Prim.Native.Nat.{ℕ, suc, ◌+◌, ◌-◌, ◌*◌, ◌^◌, ◌≤◌, ◌<◌}
 use native.Mathlib.Nat.{pow-suc, pow-le-pow_right}
-use native.Mathlib.Decide.{dec_lt}
 use native.Mathlib.Omega.{arith}
-use borrow.Author.Tests.{not-true, not-false, le-leb, lt-leb}
+use borrow.Author.Tests.{le-leb, lt-leb}
 use lib.Dec.{leb}
 use lib.ListN.{length, get_or, drop, drop_of_length-le}
 use lib.Seq.{drop-cons}
 use Rattle.text.specs.Parts.{Text}
-use Rattle.text.specs.declared.Number.TheVariants.{Is, Not}
 use Rattle.text.specs.Numbers.{is_digit, all_digits, decimal_value, is_number, field_number}
 
 -- A byte that is a digit.
@@ -29,16 +29,9 @@ module _ (b : ℕ) where
   unfolding is_digit
   digit-is h k = sym (ap₂ (λ (s t : Bool). s && t) (le-leb 48 b h) (le-leb b 57 k))
 
-  pub digit-range : is_digit b ≡ true → (48 ≤ b) × (b ≤ 57)
-  digit-range e = (low (dec_lt b 48), high (dec_lt 57 b))
-    where
-      low : Dec (b < 48) → 48 ≤ b
-      low (yes h) = absurd (false≢true (digit_low h ∙ e))
-      low (no h) = omega (arith, h)
-
-      high : Dec (57 < b) → b ≤ 57
-      high (yes h) = absurd (false≢true (digit-high h ∙ e))
-      high (no h) = omega (arith, h)
+  pub digit-other : (b < 48 ⊎ 57 < b) → false ≡ is_digit b
+  digit-other (inl h) = digit_low h
+  digit-other (inr h) = digit-high h
 
 -- The value of the first i digits, continued from there, is the value of them all.
 pub record Reading (field : Text) (i value : ℕ) : Type 0 where
@@ -50,19 +43,19 @@ pub record Reading (field : Text) (i value : ℕ) : Type 0 where
 pub reading-start : (field : Text) → Reading field 0 0
 reading-start field = record { few = omega arith; same = refl; digits = refl; small = omega arith }
 
-not-number : (field : Text) → is_number field ≡ false → Not ≡ field_number field
+not-number : (field : Text) → is_number field ≡ false → None ≡ field_number field
 unfolding field_number
-not-number field e = sym (ap (λ (t : Bool). cond t (Is (decimal_value 0 field)) Not) e)
+not-number field e = sym (ap (λ (t : Bool). cond t (Some (decimal_value 0 field)) None) e)
 
 module _ (field : Text) where
   abbrev rest : Bool
   rest = all_digits field && leb (decimal_value 0 field) 4294967295
 
-  pub number-empty : length field ≡ 0 → Not ≡ field_number field
+  pub number-empty : length field ≡ 0 → None ≡ field_number field
   unfolding is_number
   number-empty e = not-number field (ap (λ (t : Bool). (t && leb (length field) 10) && rest) (lt-leb 1 (length field) (omega arith)))
 
-  pub number-long : 10 < length field → Not ≡ field_number field
+  pub number-long : 10 < length field → None ≡ field_number field
   unfolding is_number
   number-long h =
       not-number field (ap (λ (t : Bool). (leb 1 (length field) && t) && rest) (lt-leb (length field) 10 h) ∙ ap (λ (t : Bool). t && rest) (and-false (leb 1 (length field))))
@@ -75,30 +68,27 @@ module _ (field : Text) where
     here h = drop-cons field i 0 h
 
     -- a byte that is no digit
-    pub number-other : (b : Bool) → i < length field → b ≡ is_digit (get_or field i 0) → not b ≡ true → Not ≡ field_number field
+    pub number-other : i < length field → false ≡ is_digit (get_or field i 0) → None ≡ field_number field
     unfolding is_number all_digits
-    number-other b h e t =
+    number-other h e =
         let none : all_digits field ≡ false =
-        r.digits ∙ (ap all_digits (here h) ∙ ap (λ (s : Bool). s && all_digits (drop (suc i) field)) (sym e ∙ not-true b t))
+        r.digits ∙ (ap all_digits (here h) ∙ ap (λ (s : Bool). s && all_digits (drop (suc i) field)) (sym e))
         in
         not-number field (ap (λ (s : Bool). counted && (s && leb (decimal_value 0 field) 4294967295)) none ∙ and-false counted)
 
     -- one digit more
-    pub reading-next : (b : Bool) (d : ℕ) → i < length field → b ≡ is_digit (get_or field i 0) → not b ≡ false → (d ≡ get_or field i 0 - 48) × (d < 10) → Reading field (i + 1) (value * 10 + d)
+    pub reading-next : i < length field → 48 ≤ get_or field i 0 → get_or field i 0 ≤ 57 → Reading field (i + 1) (value * 10 + (get_or field i 0 - 48))
     unfolding decimal_value all_digits
-    reading-next b d h e t v =
+    reading-next h low high =
         let more : i + 1 ≡ suc i = omega arith in
         record {
           few = omega arith;
-          same =
-              r.same
-              ∙ (ap (decimal_value value) (here h)
-              ∙ ap₂ (λ (x : ℕ) (k : ℕ). decimal_value (value * 10 + x) (drop k field)) (sym v.0) (sym more));
+          same = r.same ∙ (ap (decimal_value value) (here h) ∙ ap (λ (k : ℕ). decimal_value (value * 10 + (get_or field i 0 - 48)) (drop k field)) (sym more));
           digits =
               r.digits
               ∙ (ap all_digits (here h)
-              ∙ ap₂ (λ (s : Bool) (k : ℕ). s && all_digits (drop k field)) (sym e ∙ not-false b t) (sym more));
-          small = omega (arith, r.small, v.1, ap (λ (k : ℕ). 10 ^ k) more ∙ pow-suc 10 i);
+              ∙ ap₂ (λ (s : Bool) (k : ℕ). s && all_digits (drop k field)) (sym (digit-is (get_or field i 0) low high)) (sym more));
+          small = omega (arith, r.small, ap (λ (k : ℕ). 10 ^ k) more ∙ pow-suc 10 i);
         }
 
     pub reading-room : i < length field → length field ≤ 10 → value * 10 + 9 < 18446744073709551616
@@ -116,17 +106,22 @@ module _ (field : Text) where
     unfolding decimal_value
     whole h = r.same ∙ ap (decimal_value value) (drop_of_length-le field {i = i} h)
 
-    pub number-large : length field ≤ i → 4294967295 < value → Not ≡ field_number field
+    number-large : length field ≤ i → 4294967295 < value → None ≡ field_number field
     unfolding is_number
     number-large h b =
         not-number field
         (ap (λ (s : Bool). counted && (all_digits field && s)) (ap (λ (x : ℕ). leb x 4294967295) (whole h) ∙ lt-leb value 4294967295 b)
         ∙ (ap (λ (s : Bool). counted && s) (and-false (all_digits field)) ∙ and-false counted))
 
-    pub number_is : length field ≢ 0 → length field ≤ 10 → length field ≤ i → value ≤ 4294967295 → Is value ≡ field_number field
+    number_is : length field ≢ 0 → length field ≤ 10 → length field ≤ i → value ≤ 4294967295 → Some value ≡ field_number field
     unfolding is_number field_number
     number_is some few h b =
         sym
-        (ap₂ (λ (s t : Bool). cond ((s && t) && rest) (Is (decimal_value 0 field)) Not) (le-leb 1 (length field) (omega arith)) (le-leb (length field) 10 few)
-        ∙ (ap₂ (λ (s : Bool) (x : ℕ). cond (s && leb x 4294967295) (Is x) Not) (all_digits_lem h) (whole h)
-        ∙ ap (λ (s : Bool). cond s (Is value) Not) (le-leb value 4294967295 b)))
+        (ap₂ (λ (s t : Bool). cond ((s && t) && rest) (Some (decimal_value 0 field)) None) (le-leb 1 (length field) (omega arith)) (le-leb (length field) 10 few)
+        ∙ (ap₂ (λ (s : Bool) (x : ℕ). cond (s && leb x 4294967295) (Some x) None) (all_digits_lem h) (whole h)
+        ∙ ap (λ (s : Bool). cond s (Some value) None) (le-leb value 4294967295 b)))
+
+    -- what is read of a value that is converted to 32 bits
+    pub number-read : length field ≢ 0 → length field ≤ 10 → length field ≤ i → {E : Type 0} (r : Result ℕ E) → OkIff r (value < 2 ^ 32) value → result_ok r ≡ field_number field
+    number-read some few h (Ok x) o = ap Some o.1 ∙ number_is some few h (omega (arith, o.0))
+    number-read some few h (Err e) o = number-large h (omega (arith, o))

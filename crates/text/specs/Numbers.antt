@@ -1,8 +1,6 @@
 -- Numbers as text. Quotations are of document 01.
-use Rattle.std.specs.Prelude.{ℕ, zero, suc, ◌+◌, ◌-◌, ◌*◌, ◌/◌, ◌%◌, Bool, true, cond, ◌&&◌, [], ◌∷◌, leb, ltb, length}
+use Rattle.std.specs.Prelude.{ℕ, zero, suc, ◌+◌, ◌-◌, ◌*◌, ◌/◌, ◌%◌, Bool, true, cond, ◌&&◌, [], ◌∷◌, leb, ltb, length, Option, Some, None}
 use Rattle.text.specs.Parts.{Text}
-use Rattle.text.specs.declared.Number.{Number}
-use Rattle.text.specs.declared.Number.TheVariants.{Is, Not}
 
 unfoldable pub is_digit : ℕ → Bool
 is_digit b = leb 48 b && leb b 57
@@ -20,8 +18,8 @@ decimal_value v (b ∷ bs) = decimal_value (v * 10 + (b - 48)) bs
 unfoldable pub is_number : Text → Bool
 is_number field = (leb 1 (length field) && leb (length field) 10) && (all_digits field && leb (decimal_value 0 field) 4294967295)
 
-unfoldable pub field_number : Text → Number
-field_number field = cond (is_number field) (Is (decimal_value 0 field)) Not
+unfoldable pub field_number : Text → Option ℕ
+field_number field = cond (is_number field) (Some (decimal_value 0 field)) None
 
 -- The decimal digits of a number without leading zeros, before some text. So many digits are enough for any 64-bit number.
 unfoldable pub digits_before : (most n : ℕ) → Text → Text

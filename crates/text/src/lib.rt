@@ -1,65 +1,27 @@
 // Text in bytes: numbers read and written, where a part ends, and the beginning of a line that a chunk's end cuts.
 #![tactic(auto)]
 
-ghost use Rattle.std.specs.Prelude.{◌≡◌, [], true, ◌+◌, ◌-◌, ◌≤◌, ◌<◌, length, drop};
+ghost use Rattle.std.specs.Prelude.{◌≡◌, [], ◌+◌, ◌≤◌, length, drop};
 ghost use Rattle.text.specs.Parts.{up_to};
 ghost use Rattle.text.specs.Output.{Puts};
 ghost use Rattle.text.specs.Lines.{Holds, Extends, Ended};
-ghost use Rattle.text.specs.Numbers.{is_digit, field_number, decimal};
-
-// What a field says as a number.
-#[derive(Clone, Copy)]
-pub enum Number {
-    Is(u32),
-    Not,
-}
-
-// Whether a byte is a decimal digit.
-fn is_digit(b: u8) -> bool
-    ensures { result ≡ is_digit b }
-{
-    if b < 48 {
-        return false;
-    }
-    if 57 < b {
-        return false;
-    }
-    true
-}
-
-// The value of a digit.
-fn digit_value(b: u8) -> u64
-    requires { is_digit b ≡ true }
-    ensures { (result ≡ b - 48) × (result < 10) }
-{
-    b as u64 - 48
-}
+ghost use Rattle.text.specs.Numbers.{field_number, decimal};
 
 // The number that a field of 1 to 10 digits says, if it is at most 4,294,967,295.
-pub fn read_number(field: &[u8]) -> Number
+pub fn read_number(field: &[u8]) -> Option<u32>
     ensures { result ≡ field_number field.now }
 {
-    let count = field.len();
-    if count == 0 {
-        return Number::Not;
-    }
-    if 10 < count {
-        return Number::Not;
+    if field.is_empty() || 10 < field.len() {
+        return None;
     }
     let mut value = 0u64;
-    let mut i = 0;
-    while i < count {
-        let b = field[i];
-        if !is_digit(b) {
-            return Number::Not;
+    for b in field {
+        if !b.is_ascii_digit() {
+            return None;
         }
-        value = value * 10 + digit_value(b);
-        i = i + 1;
+        value = value * 10 + u64::from(*b - b'0');
     }
-    if 4294967295 < value {
-        return Number::Not;
-    }
-    Number::Is(value as u32)
+    u32::try_from(value).ok()
 }
 
 // The decimal digits of a number, without leading zeros: written to the end of the scratch, of which the part that holds them is returned.
@@ -69,15 +31,15 @@ pub fn write_decimal<'a>(scratch: &'a mut [u8], n: u64) -> &'a [u8]
 {
     let mut i = scratch.len();
     let mut rest = n;
+    // A while: it divides until one digit is left, and no count of turns is known before.
     while 10 <= rest {
-        i = i - 1;
-        scratch[i] = 48 + (rest % 10) as u8;
-        rest = rest / 10;
+        i -= 1;
+        scratch[i] = b'0' + (rest % 10) as u8;
+        rest /= 10;
     }
-    i = i - 1;
-    scratch[i] = 48 + rest as u8;
-    let whole = &scratch[..];
-    &whole[i..]
+    i -= 1;
+    scratch[i] = b'0' + rest as u8;
+    &scratch[i..]
 }
 
 // Puts bytes into a buffer from a place on, and returns the place behind them.
@@ -86,11 +48,7 @@ pub fn put(out: &mut [u8], at: usize, bytes: &[u8]) -> usize
     ensures { Puts out.old at bytes.now out.new result }
 {
     let count = bytes.len();
-    let mut i = 0;
-    while i < count {
-        out[at + i] = bytes[i];
-        i = i + 1;
-    }
+    out[at..at + count].copy_from_slice(bytes);
     at + count
 }
 
@@ -109,19 +67,18 @@ pub fn part_end(bytes: &[u8], from: usize, separator: u8) -> usize
     requires { from ≤ length bytes.now }
     ensures { result ≡ from + up_to separator (drop from bytes.now) }
 {
-    let count = bytes.len();
-    let mut i = from;
-    while i < count {
-        if bytes[i] == separator {
-            return i;
-        }
-        i = i + 1;
-    }
-    i
+    let rest = &bytes[from..];
+    let count = rest
+        .iter()
+        .position(|b| *b == separator)
+        .unwrap_or(rest.len());
+    from + count
 }
 
-// The first bytes of a line that is not whole yet: as many as are looked at, which is one more than a line may have. There is room for a line
-// feed behind them.
+// The most bytes of a line that are looked at: one more than a line may have.
+const LOOKED: usize = 81;
+
+// The first bytes of a line that is not whole yet: as many as are looked at. There is room for a line feed behind them.
 #[derive(Clone, Copy)]
 pub struct Reader {
     pub kept: [u8; 82],
@@ -132,27 +89,27 @@ pub struct Reader {
 pub fn no_line() -> Reader
     ensures { Holds result [] }
 {
-    let kept = [0u8; 82];
-    Reader { kept, count: 0 }
+    Reader {
+        kept: [0; 82],
+        count: 0,
+    }
 }
 
 // The line with more bytes.
 pub fn keep(reader: Reader, bytes: &[u8]) -> Reader
     ensures { Extends reader bytes.now result }
 {
-    let more = bytes.len();
     let mut kept = reader.kept;
-    let mut count = reader.count;
-    let mut i = 0;
-    while i < more {
-        if 81 <= count {
-            return Reader { kept, count };
-        }
-        kept[count] = bytes[i];
-        count = count + 1;
-        i = i + 1;
+    let count = reader.count;
+    if LOOKED <= count {
+        return reader;
     }
-    Reader { kept, count }
+    let more = bytes.len().min(LOOKED - count);
+    kept[count..count + more].copy_from_slice(&bytes[..more]);
+    Reader {
+        kept,
+        count: count + more,
+    }
 }
 
 // The line with its line feed.
@@ -161,10 +118,10 @@ pub fn ended(reader: Reader) -> Reader
 {
     let mut kept = reader.kept;
     let count = reader.count;
-    if 81 < count {
+    if LOOKED < count {
         return Reader { kept, count: 0 };
     }
-    kept[count] = 10;
+    kept[count] = b'\n';
     Reader {
         kept,
         count: count + 1,

@@ -9,33 +9,28 @@ ghost use Rattle.rules.specs.Call.Act.{READ, CHANGE};
 ghost use Rattle.rules.specs.Call.Call.{ON};
 ghost use Rattle.rules.specs.Refusal.{asked_refusal};
 ghost use Rattle.rules.specs.Plain.{answers_from, fresh_model};
-ghost use Rattle.store.specs.Shown.{lent_lengths, shown_origin};
+ghost use Rattle.rules.specs.Refusals.{refusal_in};
+ghost use Rattle.store.specs.Shown.{lengths_of};
+ghost use Rattle.store.specs.Reading.{value_in, origin_in};
+ghost use Rattle.store.specs.Memory.{lent_in, SamePieces};
 
-use store::{Origin, State};
+use store::{Memory, Reading, Refusal, State};
 
-// The refusals of a trial's calls, or 0, and what it reads in the end.
+// What a trial's calls gave, one after the other; a refused one leaves the state as it was.
 #[derive(Clone, Copy)]
 pub struct Trial {
-    pub state: State,
-    pub reset: u32,
-    pub before: u32,
-    pub mark: u32,
-    pub after: u32,
-    pub back: u32,
-    pub read: u32,
-    pub value: u32,
-    pub origin: Origin,
+    pub reset: Result<State, Refusal>,
+    pub before: Result<State, Refusal>,
+    pub mark: Result<State, Refusal>,
+    pub after: Result<State, Refusal>,
+    pub back: Result<State, Refusal>,
+    pub read: Result<Reading, Refusal>,
 }
 
 // Writes a value to an empty store, marks it, writes another one over it, takes that back and reads: what was taken back is gone.
 pub fn take_back(
     state: State,
-    archive: &mut [u8],
-    pool: &mut [u8],
-    groups: &mut [u32],
-    table: &mut [u16],
-    owners: &mut [u32],
-    history: &mut [u16],
+    memory: &mut Memory,
     lines: u32,
     frames: u32,
     pages: u32,
@@ -43,42 +38,47 @@ pub fn take_back(
     first: u32,
     second: u32,
 ) -> Trial
-    ensures { (result.reset ≡ asked_refusal (lent_lengths archive.old pool.old groups.old table.old owners.old history.old) (settings_of lines frames pages))
-        × (result.reset ≡ 0
-        → (outcome result.before ∷ outcome result.mark ∷ outcome result.after ∷ outcome result.back ∷ reading result.read result.value (shown_origin result.origin) ∷ [])
-        ≡ answers_from (lent_lengths archive.old pool.old groups.old table.old owners.old history.old)
+    ensures pieces { SamePieces memory.old memory.new }
+    ensures lengths { lengths_of (lent_in memory.new) ≡ lengths_of (lent_in memory.old) }
+    ensures answers { (refusal_in result.reset ≡ asked_refusal (lengths_of (lent_in memory.old)) (settings_of lines frames pages))
+        × (refusal_in result.reset ≡ 0
+        → (outcome (refusal_in result.before) ∷ outcome (refusal_in result.mark) ∷ outcome (refusal_in result.after) ∷ outcome (refusal_in result.back)
+        ∷ reading (refusal_in result.read) (value_in result.read) (origin_in result.read) ∷ [])
+        ≡ answers_from (lengths_of (lent_in memory.old))
         (fresh_model (settings_of lines frames pages))
         (ON (CHANGE (WRITE 4 address first)) ∷ ON (CHANGE MARK) ∷ ON (CHANGE (WRITE 4 address second)) ∷ ON (CHANGE (ROLLBACK 1)) ∷ ON (READ 4 address) ∷ []))
-        × (result.reset ≡ 0 → result.before ≡ 0 → result.mark ≡ 0 → result.after ≡ 0 → result.back ≡ 0 → result.read ≡ 0 → result.value ≡ first) }
+        × (refusal_in result.reset ≡ 0 → refusal_in result.before ≡ 0 → refusal_in result.mark ≡ 0 → refusal_in result.after ≡ 0 → refusal_in result.back ≡ 0
+        → refusal_in result.read ≡ 0 → value_in result.read ≡ first) }
 {
+    let archive = &mut *memory.archive;
+    let pool = &mut *memory.pool;
+    let groups = &mut *memory.groups;
+    let table = &mut *memory.table;
+    let owners = &mut *memory.owners;
+    let history = &mut *memory.history;
     let reset = store::reset(
         state, archive, pool, groups, table, owners, history, lines, frames, pages,
     );
-    let s = reset.state;
+    let s = reset.unwrap_or(state);
     let before = store::write(
         s, archive, pool, groups, table, owners, history, 4, address, first,
     );
-    let s = before.state;
+    let s = before.unwrap_or(s);
     let mark = store::mark(s, archive, pool, groups, table, owners, history);
-    let s = mark.state;
+    let s = mark.unwrap_or(s);
     let after = store::write(
         s, archive, pool, groups, table, owners, history, 4, address, second,
     );
-    let s = after.state;
+    let s = after.unwrap_or(s);
     let back = store::rollback(s, archive, pool, groups, table, owners, history, 1);
-    let s = back.state;
+    let s = back.unwrap_or(s);
     let read = store::read(s, archive, pool, groups, table, owners, history, 4, address);
-    let s = read.state;
-    let origin = read.origin;
     Trial {
-        state: s,
-        reset: reset.refusal,
-        before: before.refusal,
-        mark: mark.refusal,
-        after: after.refusal,
-        back: back.refusal,
-        read: read.refusal,
-        value: read.value,
-        origin,
+        reset,
+        before,
+        mark,
+        after,
+        back,
+        read,
     }
 }

@@ -1,7 +1,8 @@
 // The calls exported to C and Rust: the static library of this crate defines each under its plain name. include/vcm.h declares them, with
 // an inline function for each that takes a pointer to the state and one to the memory. A lent piece crosses as its address and its
 // count of elements, the registers and the cache's arrays where they lie; RESET and CHECK, which go over the whole store, take the
-// state by value. No struct that crosses has a bool or an enum, so that every byte that a caller may hand over is a value.
+// state by value. No struct that crosses has a bool or an enum, so that every byte that a caller may hand over is a value: a refusal crosses as its
+// number, and 0 says that there is none.
 #![tactic(auto)]
 
 ghost use Rattle.std.specs.Prelude.{◌≡◌};
@@ -15,7 +16,7 @@ ghost use Rattle.storage.specs.Clauses.{Resets, Writes, Looks, MarksIn, RollsBac
 ghost use Rattle.border.specs.Lent.{registers_from};
 ghost use Rattle.vcm.specs.Numbers.{ReadsAs, CopiesLine, ChecksAs};
 
-use store::{Counted, Need, Outcome, State};
+use store::{Need, State};
 
 // The value of a read and its origin, with the refusal or 0.
 #[repr(C)]
@@ -25,6 +26,23 @@ pub struct Reading {
     pub value: u32,
     pub origin: u32,
     pub marks_back: u32,
+}
+
+// The live frames and the pages needed, with the refusal or 0.
+#[repr(C)]
+#[derive(Clone, Copy)]
+pub struct Counted {
+    pub refusal: u32,
+    pub live: u32,
+    pub pages: u32,
+}
+
+// The state after a call, and its refusal or 0.
+#[repr(C)]
+#[derive(Clone, Copy)]
+pub struct Outcome {
+    pub state: State,
+    pub refusal: u32,
 }
 
 // CHECK's answer, 1 for yes, with the refusal or 0.
@@ -70,9 +88,15 @@ pub extern "C" fn vcm_raw_reset(
         lines frames pages result.refusal
         (storage_of result.state archive.new pool.now groups.new table.now owners.new history.new) }
 {
-    store::reset(
+    match store::reset(
         state, archive, pool, groups, table, owners, history, lines, frames, pages,
-    )
+    ) {
+        Ok(state) => Outcome { state, refusal: 0 },
+        Err(refusal) => Outcome {
+            state,
+            refusal: u32::from(refusal),
+        },
+    }
 }
 
 // WRITE: writes the registers, the cache, pool, groups, table and owners.
@@ -99,7 +123,7 @@ pub extern "C" fn vcm_raw_write(
         width address value result
         (storage_of (state_of (registers_from registers.new) (cache_of held.new origins.new valid.new bytes.new last.new)) archive.now pool.new groups.new table.new owners.new history.now) }
 {
-    let given = writing::write(
+    match writing::write(
         border::read_registers(registers),
         held,
         origins,
@@ -115,9 +139,13 @@ pub extern "C" fn vcm_raw_write(
         width,
         address,
         value,
-    );
-    border::write_used(registers, given.used);
-    given.refusal
+    ) {
+        Ok(used) => {
+            border::write_used(registers, used);
+            0
+        }
+        Err(refusal) => u32::from(refusal),
+    }
 }
 
 // READ: writes the cache.
@@ -143,7 +171,7 @@ pub extern "C" fn vcm_raw_read(
         width address result.refusal result.value result.origin result.marks_back
         (storage_of (state_of (registers_from registers.now) (cache_of held.new origins.new valid.new bytes.new last.new)) archive.now pool.now groups.now table.now owners.now history.now) }
 {
-    let r = access::read(
+    match access::read(
         border::read_registers(registers),
         held,
         origins,
@@ -158,13 +186,19 @@ pub extern "C" fn vcm_raw_read(
         history,
         width,
         address,
-    );
-    let found = r.origin;
-    Reading {
-        refusal: r.refusal,
-        value: r.value,
-        origin: border::origin_number(found),
-        marks_back: border::marks_back(found),
+    ) {
+        Ok(r) => Reading {
+            refusal: 0,
+            value: r.value,
+            origin: border::origin_number(r.origin),
+            marks_back: border::marks_back(r.origin),
+        },
+        Err(refusal) => Reading {
+            refusal: u32::from(refusal),
+            value: 0,
+            origin: border::ARCHIVE,
+            marks_back: 0,
+        },
     }
 }
 
@@ -185,13 +219,16 @@ pub extern "C" fn vcm_raw_line<'a>(
 {
     let loaded = border::read_registers(registers);
     let lengths = storage::measure(archive, pool, groups, table, owners, history);
-    let refusal = storage::admit_line(loaded, lengths, line);
-    if refusal != 0 {
-        return refusal;
+    match storage::admit_line(loaded, lengths, line) {
+        Ok(()) => {
+            let part = access::line_admitted(
+                loaded, archive, pool, groups, table, owners, history, line,
+            );
+            border::copy_line(part, bytes);
+            0
+        }
+        Err(refusal) => u32::from(refusal),
     }
-    let part = access::line_admitted(loaded, archive, pool, groups, table, owners, history, line);
-    border::copy_line(part, bytes);
-    0
 }
 
 // LINE's companion: its refusal or 0.
@@ -208,7 +245,7 @@ pub extern "C" fn vcm_raw_line_refusal(
 ) -> u32
     ensures { Looks (LINE_REFUSAL line) (registers_from registers.now) (memory_of archive.now pool.now groups.now table.now owners.now history.now) (outcome result) }
 {
-    access::line_refusal(
+    let done = access::line_refusal(
         border::read_registers(registers),
         archive,
         pool,
@@ -217,7 +254,8 @@ pub extern "C" fn vcm_raw_line_refusal(
         owners,
         history,
         line,
-    )
+    );
+    store::refusal_number(&done)
 }
 
 // MARK: writes the registers.
@@ -233,7 +271,7 @@ pub extern "C" fn vcm_raw_mark(
 ) -> u32
     ensures { MarksIn (registers_from registers.old) (memory_of archive.now pool.now groups.now table.now owners.now history.now) result (registers_from registers.new) }
 {
-    let step = marks::mark(
+    match marks::mark(
         border::read_registers(registers),
         archive,
         pool,
@@ -241,9 +279,13 @@ pub extern "C" fn vcm_raw_mark(
         table,
         owners,
         history,
-    );
-    border::write_registers(registers, step.registers);
-    step.refusal
+    ) {
+        Ok(after) => {
+            border::write_registers(registers, after);
+            0
+        }
+        Err(refusal) => u32::from(refusal),
+    }
 }
 
 // ROLLBACK: writes the registers, the cache's valid flags, groups and history.
@@ -263,7 +305,7 @@ pub extern "C" fn vcm_raw_rollback(
     ensures { RollsBackIn origins.now (registers_from registers.old) valid.old (memory_of archive.now pool.now groups.old table.now owners.now history.old) k result (registers_from registers.new) valid.new
         (memory_of archive.now pool.now groups.new table.now owners.now history.new) }
 {
-    let step = marks::rollback(
+    match marks::rollback(
         border::read_registers(registers),
         origins,
         valid,
@@ -274,9 +316,13 @@ pub extern "C" fn vcm_raw_rollback(
         owners,
         history,
         k,
-    );
-    border::write_registers(registers, step.registers);
-    step.refusal
+    ) {
+        Ok(after) => {
+            border::write_registers(registers, after);
+            0
+        }
+        Err(refusal) => u32::from(refusal),
+    }
 }
 
 // ADVANCE: writes the registers, the frames of the cache's entries, archive, groups, the flags behind the owners, and history.
@@ -295,7 +341,7 @@ pub extern "C" fn vcm_raw_advance(
     ensures { AdvancesIn (registers_from registers.old) origins.old (memory_of archive.old pool.now groups.old table.now owners.old history.old) k result (registers_from registers.new) origins.new
         (memory_of archive.new pool.now groups.new table.now owners.new history.new) }
 {
-    let step = marks::advance(
+    match marks::advance(
         border::read_registers(registers),
         origins,
         archive,
@@ -305,9 +351,13 @@ pub extern "C" fn vcm_raw_advance(
         owners,
         history,
         k,
-    );
-    border::write_registers(registers, step.registers);
-    step.refusal
+    ) {
+        Ok(after) => {
+            border::write_registers(registers, after);
+            0
+        }
+        Err(refusal) => u32::from(refusal),
+    }
 }
 
 // COUNTS: writes nothing.
@@ -323,7 +373,7 @@ pub extern "C" fn vcm_raw_counts(
 ) -> Counted
     ensures { Looks COUNTS (registers_from registers.now) (memory_of archive.now pool.now groups.now table.now owners.now history.now) (counting result.refusal result.live result.pages) }
 {
-    marks::counts(
+    match marks::counts(
         border::read_registers(registers),
         archive,
         pool,
@@ -331,7 +381,18 @@ pub extern "C" fn vcm_raw_counts(
         table,
         owners,
         history,
-    )
+    ) {
+        Ok(done) => Counted {
+            refusal: 0,
+            live: done.live,
+            pages: done.pages,
+        },
+        Err(refusal) => Counted {
+            refusal: u32::from(refusal),
+            live: 0,
+            pages: 0,
+        },
+    }
 }
 
 // CHECK: writes nothing.
@@ -347,15 +408,14 @@ pub extern "C" fn vcm_raw_check(
 ) -> Verdict
     ensures { ChecksAs (storage_of state archive.now pool.now groups.now table.now owners.now history.now) result.refusal result.yes }
 {
-    let r = store::check(state, archive, pool, groups, table, owners, history);
-    if r.yes {
-        return Verdict {
-            refusal: r.refusal,
-            yes: 1,
-        };
-    }
-    Verdict {
-        refusal: r.refusal,
-        yes: 0,
+    match store::check(state, archive, pool, groups, table, owners, history) {
+        Ok(yes) => Verdict {
+            refusal: 0,
+            yes: u32::from(yes),
+        },
+        Err(refusal) => Verdict {
+            refusal: u32::from(refusal),
+            yes: 0,
+        },
     }
 }

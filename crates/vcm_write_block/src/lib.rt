@@ -31,7 +31,7 @@ pub extern "C" fn vcm_raw_write_block(
         (items_of items.now) answers.old result answers.new
         (storage_of (state_of (registers_from registers.new) (cache_of held.new origins.new valid.new bytes.new last.new)) archive.now pool.new groups.new table.new owners.new history.now) }
 {
-    let given = write_blocks::write_block(
+    match write_blocks::write_block(
         border::read_registers(registers),
         held,
         origins,
@@ -46,7 +46,11 @@ pub extern "C" fn vcm_raw_write_block(
         history,
         items,
         answers,
-    );
-    border::write_used(registers, given.used);
-    given.refusal
+    ) {
+        Ok(used) => {
+            border::write_used(registers, used);
+            0
+        }
+        Err(refusal) => u32::from(refusal),
+    }
 }

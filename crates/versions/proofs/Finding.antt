@@ -1,4 +1,5 @@
 -- Where versions stand, in the form in which the code has it. Assumes nothing.
+use Rattle.std.specs.Prelude.{Option, Some, None}
 use mathlib.Core.Path.{◌≡◌, refl, sym, ◌∙◌, ap, ap₂}
 use mathlib.Core.Bool.{Bool, true, false, cond}
 use mathlib.Core.List.{List}
@@ -6,29 +7,21 @@ use Prim.Native.Nat.{ℕ, ◌+◌, ◌-◌, ◌*◌, ◌/◌, ◌%◌, ◌≤◌
 use native.Mathlib.Omega.{arith}
 use mir.Syntax.{w16}
 use mir.Val.{Fits}
-use borrow.Author.Tests.{lt-ltb, le-ltb, ltb-true}
+use borrow.Author.Tests.{ltb-true}
 use lib.Dec.{ltb}
 use lib.ListN.{length, get_or}
 use Rattle.rules.specs.Line.{Line}
 use Rattle.frames.specs.Circle.{Turn, frame_at}
-use Rattle.numbers.specs.declared.Found.{Found}
-use Rattle.numbers.specs.declared.Found.TheVariants.{At, Nothing}
 use Rattle.frames.proofs.Circle.{frame_below}
 use Rattle.numbers.proofs.Search.{greatest-found}
 use Rattle.written.specs.Bits.{Written, effective, newest_from}
 use Rattle.written.proofs.Areas.{place-below}
-use Rattle.pages.specs.Lines.{page_line, archive_line}
 use Rattle.pages.specs.Table.{blocks_of, place_at, entry_of, AsksTable, entry_at, AsksEntry}
 use Rattle.pages.proofs.Needs.{place-frame, place-block}
-use Rattle.cache.specs.declared.Entry.{Entry}
-use Rattle.cache.specs.declared.Entry.TheVariants.{Hit, Miss}
 use Rattle.cache.specs.Entries.{bytes_in, hit_in}
-use Rattle.versions.specs.declared.Spot.{Spot}
-use Rattle.versions.specs.declared.Spot.TheVariants.{Page, Archive}
-use Rattle.versions.specs.declared.Origin.{Origin}
 use Rattle.versions.specs.declared.Origin.TheVariants as origin
 use Rattle.versions.specs.declared.Version.{Version}
-use Rattle.versions.specs.Newest.{page_of, spot_of, content_of, number_of, back_in, newest_of, latest_from, latest_held, AsksSpot, AsksContent, AsksNewest}
+use Rattle.versions.specs.Newest.{page_of, spot_of, newest_of, latest_from, latest_held, AsksSpot, AsksContent, AsksNewest}
 
 -- the place of a frame and line lies in the table
 pub entry-within : (lines frames frame line : ℕ) → lines % 8 ≡ 0 → frame < frames → line < lines → entry_at lines frame (line / 8) < frames * (lines / 8)
@@ -53,11 +46,11 @@ entry-asks lines frames frame line long by few some f l room =
 
 -- ---- a version that a search found
 -- lies no higher than the search started
-pub newest-below : (w : Written) (line start i : ℕ) → newest_from w line start ≡ At i → i ≤ start
+pub newest-below : (w : Written) (line start i : ℕ) → newest_from w line start ≡ Some i → i ≤ start
 unfolding newest_from
 newest-below w line start i e = omega (arith, (greatest-found (start + 1) (λ k. effective w k line) i e).below)
 
-pub spot-asks : (w : Written) (table : List ℕ) (line start : ℕ) (r : Found) → AsksTable w table → line < w.lines → start < w.frames
+pub spot-asks : (w : Written) (table : List ℕ) (line start : ℕ) (r : Option ℕ) → AsksTable w table → line < w.lines → start < w.frames
     → r ≡ newest_from w line start → AsksSpot w.lines w.frames w.omf line r (length table)
 spot-asks w table line start r a l s e =
     record {
@@ -70,58 +63,30 @@ spot-asks w table line start r a l s e =
       table_long = a.table_long;
     }
 
-module _ (lines frames omf line : ℕ) (r : Found) (long : ℕ) (asks : AsksSpot lines frames omf line r long) (i : ℕ) where
-  pub found_turn : r ≡ At i → Turn frames omf i
-  found_turn e = record { omf_below = asks.omf_below; below = asks.index_below i e; few = omega (arith, asks.frames_few) }
-
+module _ (lines frames omf line : ℕ) (r : Option ℕ) (long : ℕ) (asks : AsksSpot lines frames omf line r long) (i : ℕ) where
   pub found-entry : (f : ℕ) → f ≡ frame_at frames omf i → AsksEntry lines f (line / 8) long
   found-entry f e =
       entry-asks lines frames f line long asks.lines_by asks.lines_few asks.frames_few
       (omega (arith, e, frame_below frames omf asks.omf_below i)) asks.line_below asks.table_long
 
--- a number that the table has, as a spot
-page-spot : (pages n p : ℕ) → n ≡ p → n < pages → Page n ≡ cond (ltb p pages) (Page p) Archive
-page-spot pages n p e h = sym (ap (λ (b : Bool). cond b (Page p) Archive) (lt-ltb p pages (omega arith)) ∙ ap Page (sym e))
-
-no-spot : (pages n p : ℕ) → n ≡ p → pages ≤ n → Archive ≡ cond (ltb p pages) (Page p) Archive
-no-spot pages n p e h = sym (ap (λ (b : Bool). cond b (Page p) Archive) (le-ltb p pages (omega arith)))
-
-module _ (lines frames omf pages : ℕ) (table : List ℕ) (line : ℕ) (r : Found) where
-  pub spot-page : (i f n : ℕ) → r ≡ At i → f ≡ frame_at frames omf i → (n ≡ get_or table (entry_at lines f (line / 8)) 0) × (n < 65536) → n < pages
-      → Page n ≡ spot_of lines frames omf pages table line r
-  unfolding spot_of page_of
-  spot-page i f n e h (p, small) b =
-      page-spot pages n (page_of lines frames omf table i line) (p ∙ ap (λ (x : ℕ). get_or table (entry_at lines x (line / 8)) 0) h) b
-      ∙ ap (spot_of lines frames omf pages table line) (sym e)
-
-  pub spot-none : (i f n : ℕ) → r ≡ At i → f ≡ frame_at frames omf i → (n ≡ get_or table (entry_at lines f (line / 8)) 0) × (n < 65536) → pages ≤ n
-      → Archive ≡ spot_of lines frames omf pages table line r
-  unfolding spot_of page_of
-  spot-none i f n e h (p, small) b =
-      no-spot pages n (page_of lines frames omf table i line) (p ∙ ap (λ (x : ℕ). get_or table (entry_at lines x (line / 8)) 0) h) b
-      ∙ ap (spot_of lines frames omf pages table line) (sym e)
-
-  pub spot-nothing : r ≡ Nothing → Archive ≡ spot_of lines frames omf pages table line r
-  unfolding spot_of
-  spot-nothing e = ap (spot_of lines frames omf pages table line) (sym e)
-
+module _ (lines frames omf pages : ℕ) (table : List ℕ) (line : ℕ) (r : Option ℕ) where
   -- a page that it stands in is below P
-  pub spot-below : (p : ℕ) → spot_of lines frames omf pages table line r ≡ Page p → p < pages
+  pub spot-below : (p : ℕ) → spot_of lines frames omf pages table line r ≡ Some p → p < pages
   unfolding spot_of
   spot-below p h = go r h
     where
-      at : (n : ℕ) (b : Bool) → ltb n pages ≡ b → cond b (Page n) Archive ≡ Page p → p < pages
+      at : (n : ℕ) (b : Bool) → ltb n pages ≡ b → cond b (Some n) None ≡ Some p → p < pages
       at n true t e =
           let d : n ≡ p = cc in
           omega (arith, d, ltb-true n pages t)
       at n false t e = let z : ◌≡◌ {A = ℕ} 0 1 = cc in absurd (omega arith)
 
-      go : (x : Found) → spot_of lines frames omf pages table line x ≡ Page p → p < pages
-      go (At i) e = at (page_of lines frames omf table i line) (ltb (page_of lines frames omf table i line) pages) refl e
-      go Nothing e = let z : ◌≡◌ {A = ℕ} 0 1 = cc in absurd (omega arith)
+      go : (x : Option ℕ) → spot_of lines frames omf pages table line x ≡ Some p → p < pages
+      go (Some i) e = at (page_of lines frames omf table i line) (ltb (page_of lines frames omf table i line) pages) refl e
+      go None e = let z : ◌≡◌ {A = ℕ} 0 1 = cc in absurd (omega arith)
 
 -- ---- the bytes of a version
-pub content-asks : (lines frames omf pages line : ℕ) (table : List ℕ) (archive pool : ℕ) (r : Found) (spot : Spot) → lines % 8 ≡ 0 → lines ≤ 4096 → line < lines → pages ≤ 4096
+pub content-asks : (lines frames omf pages line : ℕ) (table : List ℕ) (archive pool : ℕ) (r : Option ℕ) (spot : Option ℕ) → lines % 8 ≡ 0 → lines ≤ 4096 → line < lines → pages ≤ 4096
     → 16 * lines ≤ archive → 128 * pages ≤ pool → spot ≡ spot_of lines frames omf pages table line r → AsksContent line spot archive pool
 content-asks lines frames omf pages line table archive pool r spot by some l few long room e =
     record {
@@ -131,64 +96,32 @@ content-asks lines frames omf pages line table archive pool r spot by some l few
       archived = record { line_few = omega arith; room = omega arith };
     }
 
-module _ (archive pool : List ℕ) (line : ℕ) (spot : Spot) (x : Line) where
-  pub content-page : (p : ℕ) → spot ≡ Page p → x ≡ page_line pool p (line % 8) → x ≡ content_of archive pool line spot
-  unfolding content_of
-  content-page p e h = h ∙ ap (content_of archive pool line) (sym e)
-
-  pub content-archive : spot ≡ Archive → x ≡ archive_line archive line → x ≡ content_of archive pool line spot
-  unfolding content_of
-  content-archive e h = h ∙ ap (content_of archive pool line) (sym e)
-
--- ---- the version that is given
-module _ (w : Written) (pages live line : ℕ) (archive pool table : List ℕ) (r : Found) (x : Line) (found-is : r ≡ newest_from w line (live - 1)) where
-  version-is : (spot : Spot) (n : ℕ) (o : Origin) → spot ≡ spot_of w.lines w.frames w.omf pages table line r → x ≡ content_of archive pool line spot
-      → n ≡ number_of w.frames w.omf r → o ≡ back_in live r
-      → record { content = x; frame = n; origin = o } ≡ newest_of w pages live archive pool table line
-  unfolding newest_of
-  version-is spot n o es ex en eo = cc
-
-  pub newest-at : (i f : ℕ) (spot : Spot) → r ≡ At i → spot ≡ spot_of w.lines w.frames w.omf pages table line (At i) → x ≡ content_of archive pool line spot
-      → f ≡ frame_at w.frames w.omf i
-      → record { content = x; frame = f; origin = origin.Frame (live - 1 - i) } ≡ newest_of w pages live archive pool table line
-  unfolding number_of back_in
-  newest-at i f spot e s h n =
-      version-is spot f (origin.Frame (live - 1 - i)) (s ∙ ap (spot_of w.lines w.frames w.omf pages table line) (sym e)) h
-      (n ∙ ap (number_of w.frames w.omf) (sym e)) (ap (back_in live) (sym e))
-
-  pub newest-none : r ≡ Nothing → x ≡ archive_line archive line
-      → record { content = x; frame = 65535; origin = origin.Archive } ≡ newest_of w pages live archive pool table line
-  unfolding number_of back_in content_of
-  newest-none e h =
-      version-is Archive 65535 origin.Archive (spot-nothing w.lines w.frames w.omf pages table line r e) h
-      (ap (number_of w.frames w.omf) (sym e)) (ap (back_in live) (sym e))
-
 -- the version by the entry found
-module _ (frames bytes : List ℕ) (other : Version) (r : Entry) where
-  pub latest-hit : (e n : ℕ) (x : Line) → r ≡ Hit e → x ≡ bytes_in bytes e → n ≡ get_or frames e 0
+module _ (frames bytes : List ℕ) (other : Version) (r : Option ℕ) where
+  pub latest-hit : (e n : ℕ) (x : Line) → r ≡ Some e → x ≡ bytes_in bytes e → n ≡ get_or frames e 0
       → record { content = x; frame = n; origin = origin.Cache } ≡ latest_from frames bytes other r
   unfolding latest_from
   latest-hit e n x h ex en =
       ap₂ (λ (y : Line) (z : ℕ). record { content = y; frame = z; origin = origin.Cache }) ex en ∙ ap (latest_from frames bytes other) (sym h)
 
-  pub latest-miss : (v : Version) → r ≡ Miss → v ≡ other → v ≡ latest_from frames bytes other r
+  pub latest-miss : (v : Version) → r ≡ None → v ≡ other → v ≡ latest_from frames bytes other r
   unfolding latest_from
   latest-miss v h e = e ∙ ap (latest_from frames bytes other) (sym h)
 
-pub latest-held : (lines frames valid bytes : List ℕ) (w : Written) (pages live line : ℕ) (archive pool table : List ℕ) (r : Entry) → r ≡ hit_in lines valid line → (v : Version)
+pub latest-held : (lines frames valid bytes : List ℕ) (w : Written) (pages live line : ℕ) (archive pool table : List ℕ) (r : Option ℕ) → r ≡ hit_in lines valid line → (v : Version)
     → v ≡ latest_from frames bytes (newest_of w pages live archive pool table line) r → v ≡ latest_held lines frames valid bytes w pages live archive pool table line
 unfolding latest_held
 latest-held lines frames valid bytes w pages live line archive pool table r told v e = e ∙ ap (latest_from frames bytes (newest_of w pages live archive pool table line)) told
 
 -- what a version found has its frame and origin by
-module _ (w : Written) (pages live line : ℕ) (archive pool table : List ℕ) (asks : AsksNewest w pages live line archive pool table) (r : Found) (i : ℕ)
-    (told : r ≡ newest_from w line (live - 1)) (at : r ≡ At i) where
+module _ (w : Written) (pages live line : ℕ) (archive pool table : List ℕ) (asks : AsksNewest w pages live line archive pool table) (r : Option ℕ) (i : ℕ)
+    (told : r ≡ newest_from w line (live - 1)) (at : r ≡ Some i) where
   pub newest-within : i ≤ live - 1
   newest-within = newest-below w line (live - 1) i (sym told ∙ at)
 
-  pub newest-asks : AsksSpot w.lines w.frames w.omf line (At i) (length table)
+  pub newest-asks : AsksSpot w.lines w.frames w.omf line (Some i) (length table)
   newest-asks =
-      spot-asks w table line (live - 1) (At i) asks.asks asks.line_below (omega (arith, asks.live_some, asks.live_within)) (sym at ∙ told)
+      spot-asks w table line (live - 1) (Some i) asks.asks asks.line_below (omega (arith, asks.live_some, asks.live_within)) (sym at ∙ told)
 
   pub newest-turn : Turn w.frames w.omf i
   newest-turn =

@@ -1,5 +1,6 @@
 -- A fold page by page on a ring: the last page walked that has a line is that of the line's newest version among the collected frames.
 -- Assumes nothing.
+use Rattle.std.specs.Prelude.{Option, Some, None}
 use mathlib.Core.Path.{◌≡◌, refl, sym, ◌∙◌, ap, ap₂}
 use mathlib.Core.Bool.{Bool, true, false, cond, ◌&&◌, false≢true}
 use mathlib.Core.List.{List}
@@ -13,8 +14,6 @@ use Rattle.rules.specs.Line.{Line}
 use Rattle.rules.specs.Seen.{any}
 use Rattle.rules.proofs.Count.{any-true, any_none, any_false, any_found}
 use Rattle.rules.proofs.Tests.{both_true}
-use Rattle.numbers.specs.declared.Found.{Found}
-use Rattle.numbers.specs.declared.Found.TheVariants.{At, Nothing}
 use Rattle.frames.specs.Circle.{index_of, frame_at}
 use Rattle.numbers.specs.Search.{greatest}
 use Rattle.frames.proofs.Circle.{frame_below, index-frame, frame-index}
@@ -25,15 +24,14 @@ use Rattle.pages.specs.Table.{blocks_of, places_of, place_at, entry_of}
 use Rattle.pages.specs.Ring.{nth_page, position_of, Rising, Splits, owner_index, index_at, WellRing}
 use Rattle.pages.proofs.Needs.{place-frame, place-block, effective-needed}
 use Rattle.pages.proofs.Keeping.{owner-index}
-use Rattle.versions.specs.declared.Spot.TheVariants.{Page, Archive}
 use Rattle.versions.specs.Newest.{page_of, spot_of, content_of}
 use Rattle.versions.specs.Steps.{folded_pages}
 use Rattle.versions.proofs.Archived.{walk, hit, pages-folded}
 
 -- A walk that keeps the last hit is a search from the top down.
-pick : {A : Type 0} (archive : A) (page : ℕ → A) → Found → A
-pick archive page (At i) = page i
-pick archive page Nothing = archive
+pick : {A : Type 0} (archive : A) (page : ℕ → A) → Option ℕ → A
+pick archive page (Some i) = page i
+pick archive page None = archive
 
 walk-picks : {A : Type 0} (archive : A) (page : ℕ → A) (test : ℕ → Bool) (n : ℕ) → walk archive page test n ≡ pick archive page (greatest n test)
 unfolding walk pick greatest
@@ -41,7 +39,7 @@ walk-picks archive page test zero = refl
 walk-picks archive page test (suc n) = go (test n) (walk-picks archive page test n)
   where
     go : (t : Bool) → walk archive page test n ≡ pick archive page (greatest n test)
-        → cond t (page n) (walk archive page test n) ≡ pick archive page (cond t (At n) (greatest n test))
+        → cond t (page n) (walk archive page test n) ≡ pick archive page (cond t (Some n) (greatest n test))
     go true ih = refl
     go false ih = ih
 
@@ -49,7 +47,7 @@ walk-picks archive page test (suc n) = go (test n) (walk-picks archive page test
 module _ (n k : ℕ) (f g : ℕ → Bool) (idx : ℕ → ℕ) (hits : (i : ℕ) → i < n → f i ≡ true → (idx i < k) × (g (idx i) ≡ true))
     (all : (j : ℕ) → j < k → g j ≡ true → (i : ℕ) × (i < n) × (f i ≡ true) × (idx i ≡ j)) (up : Rising n idx)
     (one : (i j : ℕ) → i < n → j < n → f i ≡ true → f j ≡ true → idx i ≡ idx j → i ≡ j) where
-  newest-none : greatest k g ≡ Nothing → greatest n f ≡ Nothing
+  newest-none : greatest k g ≡ None → greatest n f ≡ None
   newest-none e = greatest-none n f (λ i b. go i b (f i) refl)
     where
       go : (i : ℕ) → i < n → (t : Bool) → f i ≡ t → t ≡ false
@@ -58,7 +56,7 @@ module _ (n k : ℕ) (f g : ℕ → Bool) (idx : ℕ → ℕ) (hits : (i : ℕ) 
           absurd (false≢true (sym (greatest-nothing k g e (idx i) h.0) ∙ h.1))
       go i b false d = refl
 
-  newest-some : (j : ℕ) → greatest k g ≡ At j → (i : ℕ) × (i < n) × (greatest n f ≡ At i) × (f i ≡ true) × (idx i ≡ j)
+  newest-some : (j : ℕ) → greatest k g ≡ Some j → (i : ℕ) × (i < n) × (greatest n f ≡ Some i) × (f i ≡ true) × (idx i ≡ j)
   newest-some j e =
       let h = greatest-found k g j e in
       let w = all j h.below h.passes in
@@ -175,13 +173,13 @@ module _ (w : Written) (lent : AsksWritten w) (pages first used gone k : ℕ) (b
     abbrev row : ℕ → Bool
     row j = effective w j l
 
-    abbrev content : Found → Line
+    abbrev content : Option ℕ → Line
     content f = content_of archive pool l (spot_of w.lines w.frames w.omf pages table l f)
 
-    picked : (f : Found) → greatest k row ≡ f → pick (archive_line archive l) (λ i. page_line pool (nth_page pages first i) (l % 8)) (greatest gone has) ≡ content f
+    picked : (f : Option ℕ) → greatest k row ≡ f → pick (archive_line archive l) (λ i. page_line pool (nth_page pages first i) (l % 8)) (greatest gone has) ≡ content f
     unfolding pick content_of spot_of page_of
-    picked Nothing e = ap (pick (archive_line archive l) (λ i. page_line pool (nth_page pages first i) (l % 8))) (newest-none gone k has row indexed has-hits has_all has-rising has_one e)
-    picked (At j) e =
+    picked None e = ap (pick (archive_line archive l) (λ i. page_line pool (nth_page pages first i) (l % 8))) (newest-none gone k has row indexed has-hits has_all has-rising has_one e)
+    picked (Some j) e =
         let h = newest-some gone k has row indexed has-hits has_all has-rising has_one j e in
         let c : h.0 < used = omega (arith, h.1, parts.few) in
         let page : nth_page pages first h.0 ≡ page_of w.lines w.frames w.omf table j l =
@@ -192,7 +190,7 @@ module _ (w : Written) (lent : AsksWritten w) (pages first used gone k : ℕ) (b
         let low : page_of w.lines w.frames w.omf table j l < pages = omega (arith, page, frame_below pages first r.first_below h.0) in
         ap (pick (archive_line archive l) (λ i. page_line pool (nth_page pages first i) (l % 8))) h.2
         ∙ (ap (λ (p : ℕ). page_line pool p (l % 8)) page
-        ∙ sym (ap (λ (t : Bool). content_of archive pool l (cond t (Page (page_of w.lines w.frames w.omf table j l)) Archive)) (lt-ltb (page_of w.lines w.frames w.omf table j l) pages low)))
+        ∙ sym (ap (λ (t : Bool). content_of archive pool l (cond t (Some (page_of w.lines w.frames w.omf table j l)) None)) (lt-ltb (page_of w.lines w.frames w.omf table j l) pages low)))
 
     pub folded-line : 16 * w.lines ≤ length archive → 128 * pages ≤ length pool → archive_line (folded_pages w pages first pool owners gone archive) l ≡ content (greatest k row)
     folded-line inside room =

@@ -1,22 +1,16 @@
 -- Where the newest version of a line stands, up to the frame of an index, and its bytes.
-use Rattle.std.specs.Prelude.{ℕ, ◌-◌, ◌*◌, ◌/◌, ◌%◌, ◌≤◌, ◌<◌, ◌≡◌, Bool, cond, not, ◌&&◌, List, ltb, eqb, length, get_or}
+use Rattle.std.specs.Prelude.{ℕ, ◌-◌, ◌*◌, ◌/◌, ◌%◌, ◌≤◌, ◌<◌, ◌≡◌, Bool, cond, not, ◌&&◌, List, ltb, eqb, length, get_or, Option, Some, None}
 use Rattle.rules.specs.Line.{Line}
 use Rattle.rules.specs.Call as call
 use Rattle.rules.specs.Call.Place.{in_frame, in_archive}
 use Rattle.rules.specs.Call.Origin.{from_cache, from, empty}
 use Rattle.frames.specs.Circle.{frame_at}
-use Rattle.numbers.specs.declared.Found.{Found}
-use Rattle.numbers.specs.declared.Found.TheVariants.{At, Nothing}
 use Rattle.written.specs.Bits.{Written, newest_from}
 use Rattle.pages.specs.Lines.{page_line, archive_line, AsksPage, AsksArchive}
 use Rattle.pages.specs.Table.{entry_at, AsksTable}
 use Rattle.cache.specs.declared.Cache.{Cache}
-use Rattle.cache.specs.declared.Entry.{Entry}
-use Rattle.cache.specs.declared.Entry.TheVariants.{Hit, Miss}
 use Rattle.cache.specs.Entries.{bytes_in, hit_in}
 use Rattle.cache.specs.Steps.{archive_frame}
-use Rattle.versions.specs.declared.Spot.{Spot}
-use Rattle.versions.specs.declared.Spot.TheVariants.{Page, Archive}
 use Rattle.versions.specs.declared.Origin as code
 use Rattle.versions.specs.declared.Origin.TheVariants as origin
 use Rattle.versions.specs.declared.Version.{Version}
@@ -25,27 +19,27 @@ use Rattle.versions.specs.declared.Version.{Version}
 unfoldable pub page_of : (lines frames omf : ℕ) → (table : List ℕ) → (index line : ℕ) → ℕ
 page_of lines frames omf table i l = get_or table (entry_at lines (frame_at frames omf i) (l / 8)) 0
 
--- Where a version stands that a search found: in the page that the table names, or else in the archive. A number that is no page's,
--- which no well-formed table names, counts as the archive.
-unfoldable pub spot_of : (lines frames omf pages : ℕ) → (table : List ℕ) → (line : ℕ) → Found → Spot
-spot_of lines frames omf pages table l (At i) =
-    cond (ltb (page_of lines frames omf table i l) pages) (Page (page_of lines frames omf table i l)) Archive
-spot_of lines frames omf pages table l Nothing = Archive
+-- The page in which a version stands that a search found: the one that the table names, or else none, and it stands in the archive. A number that is
+-- no page's, which no well-formed table names, counts as none.
+unfoldable pub spot_of : (lines frames omf pages : ℕ) → (table : List ℕ) → (line : ℕ) → Option ℕ → Option ℕ
+spot_of lines frames omf pages table l (Some i) =
+    cond (ltb (page_of lines frames omf table i l) pages) (Some (page_of lines frames omf table i l)) None
+spot_of lines frames omf pages table l None = None
 
 -- The line that stands there.
-unfoldable pub content_of : (archive pool : List ℕ) → (line : ℕ) → Spot → Line
-content_of archive pool l (Page p) = page_line pool p (l % 8)
-content_of archive pool l Archive = archive_line archive l
+unfoldable pub content_of : (archive pool : List ℕ) → (line : ℕ) → Option ℕ → Line
+content_of archive pool l (Some p) = page_line pool p (l % 8)
+content_of archive pool l None = archive_line archive l
 
 -- The frame's number, as the cache has it,
-unfoldable pub number_of : (frames omf : ℕ) → Found → ℕ
-number_of frames omf (At i) = frame_at frames omf i
-number_of frames omf Nothing = archive_frame
+unfoldable pub number_of : (frames omf : ℕ) → Option ℕ → ℕ
+number_of frames omf (Some i) = frame_at frames omf i
+number_of frames omf None = archive_frame
 
 -- and READ's origin: "a frame given by how many marks back it lies (0 is CMF), or the archive".
-unfoldable pub back_in : (live : ℕ) → Found → code.Origin
-back_in live (At i) = origin.Frame (live - 1 - i)
-back_in live Nothing = origin.Archive
+unfoldable pub back_in : (live : ℕ) → Option ℕ → code.Origin
+back_in live (Some i) = origin.Frame (live - 1 - i)
+back_in live None = origin.Archive
 
 -- The papers' origin for each case of the answer's.
 unfoldable pub origin_of : code.Origin → call.Origin
@@ -73,9 +67,9 @@ newest_of w pages live archive pool table l =
     }
 
 -- or as an entry of the cache has it.
-unfoldable pub latest_from : (held-frames bytes : List ℕ) → Version → Entry → Version
-latest_from frames bytes other (Hit e) = record { content = bytes_in bytes e; frame = get_or frames e 0; origin = origin.Cache }
-latest_from frames bytes other Miss = other
+unfoldable pub latest_from : (held-frames bytes : List ℕ) → Version → Option ℕ → Version
+latest_from frames bytes other (Some e) = record { content = bytes_in bytes e; frame = get_or frames e 0; origin = origin.Cache }
+latest_from frames bytes other None = other
 
 unfoldable pub latest_held : (held-lines held-frames valid bytes : List ℕ) → Written → (pages live : ℕ) → (archive pool table : List ℕ) → (line : ℕ) → Version
 latest_held lines frames valid bytes w pages live archive pool table l =
@@ -86,18 +80,18 @@ latest_of c w pages live archive pool table l =
     latest_held c.held c.origins c.valid c.bytes w pages live archive pool table l
 
 -- What the functions ask of the numbers and the lent lengths; the store tests it.
-pub record AsksSpot (lines frames omf line : ℕ) (found : Found) (long : ℕ) : Type 0 where
+pub record AsksSpot (lines frames omf line : ℕ) (found : Option ℕ) (long : ℕ) : Type 0 where
   pub lines_by : lines % 8 ≡ 0
   pub lines_few : lines ≤ 4096
   pub frames_few : frames ≤ 4096
   pub omf_below : omf < frames
   pub line_below : line < lines
-  pub index_below : (i : ℕ) → found ≡ At i → i < frames
+  pub index_below : (i : ℕ) → found ≡ Some i → i < frames
   pub table_long : frames * (lines / 8) ≤ long
 
 -- and where a version stands.
-pub record AsksContent (line : ℕ) (spot : Spot) (archive pool : ℕ) : Type 0 where
-  pub page : (p : ℕ) → spot ≡ Page p → AsksPage p (line % 8) pool
+pub record AsksContent (line : ℕ) (spot : Option ℕ) (archive pool : ℕ) : Type 0 where
+  pub page : (p : ℕ) → spot ≡ Some p → AsksPage p (line % 8) pool
   pub archived : AsksArchive line archive
 
 -- What is asked to find a line's newest version among the live frames.

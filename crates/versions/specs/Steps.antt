@@ -1,8 +1,6 @@
 -- What RESET, ADVANCE and WRITE do to archive, pool, groups, table and owners.
-use Rattle.std.specs.Prelude.{◌≡◌, ℕ, zero, suc, ◌+◌, ◌*◌, ◌/◌, ◌%◌, ◌≤◌, ◌<◌, min, Bool, cond, List, ltb, length, get_or}
+use Rattle.std.specs.Prelude.{◌≡◌, ℕ, zero, suc, ◌+◌, ◌*◌, ◌/◌, ◌%◌, ◌≤◌, ◌<◌, min, Bool, cond, List, ltb, length, get_or, Option, Some}
 use Rattle.lists.specs.Lists.{rewrite}
-use Rattle.numbers.specs.declared.Found.{Found}
-use Rattle.numbers.specs.declared.Found.TheVariants.{At}
 use Rattle.written.specs.Bits.{Written, AsksWritten, effective}
 use Rattle.written.specs.Steps.{cleared_block}
 use Rattle.pages.specs.Lines.{page_line, with_archive_line}
@@ -63,13 +61,13 @@ cleared_pages lines pages first owners (suc n) groups =
     cleared_page lines (get_or owners (nth_page pages first n) 0) (cleared_pages lines pages first owners n groups)
 
 -- The page that a write to a line in a frame goes to: the one that the table names where it is the place's own, and else the next of the
--- ring. Nothing: none is left.
+-- ring. None: none is left.
 module _ (lines pages first used : ℕ) (table owners : List ℕ) (f l : ℕ) where
   abbrev pub owns_page : Bool
   owns_page = owns pages first used owners (get_or table (entry_at lines f (l / 8)) 0) (place_at f (l / 8))
 
-  unfoldable pub page_for : Found
-  page_for = cond owns_page (At (get_or table (entry_at lines f (l / 8)) 0)) (next_page pages first used)
+  unfoldable pub page_for : Option ℕ
+  page_for = cond owns_page (Some (get_or table (entry_at lines f (l / 8)) 0)) (next_page pages first used)
 
   -- How many pages are in use then.
   unfoldable pub used_for : ℕ

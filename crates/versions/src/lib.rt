@@ -16,17 +16,8 @@ ghost use Rattle.cache.specs.Entries.{AsksFound};
 ghost use Rattle.versions.specs.Newest.{spot_of, content_of, newest_of, latest_from, is_empty, AsksSpot, AsksContent, AsksNewest};
 ghost use Rattle.versions.specs.Steps.{zeroed, folded_line, folded_page, folded_pages, flagged_line, flagged_page, flagged_pages, cleared_page, cleared_pages, page_for, used_for, AsksPageFor, AsksPut, AsksCopy, AsksFold, AsksGone};
 
-use cache::Entry;
-use numbers::Found;
 use pages::Ring;
 use written::Shape;
-
-// Where a version stands: in a page of the pool, in the slot of its line, or in the archive.
-#[derive(Clone, Copy)]
-pub enum Spot {
-    Page(u32),
-    Archive,
-}
 
 // Where a read finds its line: in the cache, in the frame that lies so many marks back, in the archive, or nowhere: no surviving write has
 // touched it.
@@ -49,40 +40,35 @@ pub struct Version {
 // The page that a write goes to, if there is one, and how many pages are in use then.
 #[derive(Clone, Copy)]
 pub struct Choice {
-    pub page: Found,
+    pub page: Option<u32>,
     pub used: u32,
 }
 
-// Where a version that a search found stands.
-pub fn locate(table: &[u16], shape: Shape, pages: u32, line: u32, found: Found) -> Spot
+// The page of the pool in which a version that a search found stands, or none if it stands in the archive.
+#[tactic(auto, unfolding(crate::specs::Newest::spot_of, crate::specs::Newest::page_of))]
+pub fn locate(table: &[u16], shape: Shape, pages: u32, line: u32, found: Option<u32>) -> Option<u32>
     requires { AsksSpot shape.lines shape.frames shape.omf line found (length table.now) }
     ensures { result ≡ spot_of shape.lines shape.frames shape.omf pages table.now line found }
 {
-    match found {
-        Found::At(i) => {
-            let frame = frames::frame_at(shape.frames, shape.omf, i);
-            let page = pages::table::page_at(table, shape, frame, line / 8);
-            if page < pages {
-                return Spot::Page(page);
-            }
-            Spot::Archive
-        }
-        Found::Nothing => Spot::Archive,
-    }
+    let frame = frames::frame_at(shape.frames, shape.omf, found?);
+    let page = pages::table::page_at(table, shape, frame, line / 8);
+    if page < pages { Some(page) } else { None }
 }
 
 // The 16 bytes of the version of a line that stands there.
-pub fn content_at(archive: &[u8], pool: &[u8], line: u32, spot: Spot) -> [u8; 16]
+#[tactic(auto, unfolding(crate::specs::Newest::content_of))]
+pub fn content_at(archive: &[u8], pool: &[u8], line: u32, spot: Option<u32>) -> [u8; 16]
     requires { AsksContent line spot (length archive.now) (length pool.now) }
     ensures { result ≡ content_of archive.now pool.now line spot }
 {
     match spot {
-        Spot::Page(page) => pages::lines::read_page_line(pool, page, line % 8),
-        Spot::Archive => pages::lines::read_archive_line(archive, line),
+        Some(page) => pages::lines::read_page_line(pool, page, line % 8),
+        None => pages::lines::read_archive_line(archive, line),
     }
 }
 
 // The most recent version of a line among the live frames and the archive, the cache apart.
+#[tactic(auto, unfolding(crate::specs::Newest::newest_of, crate::specs::Newest::number_of, crate::specs::Newest::back_in, crate::specs::Newest::spot_of, crate::specs::Newest::content_of))]
 pub fn newest(
     archive: &[u8],
     pool: &[u8],
@@ -99,7 +85,7 @@ pub fn newest(
 {
     let found = written::search(groups, history, shape, line, live - 1);
     match found {
-        Found::At(i) => {
+        Some(i) => {
             let at = locate(table, shape, pages, line, found);
             let content = content_at(archive, pool, line, at);
             let frame = frames::frame_at(shape.frames, shape.omf, i) as u16;
@@ -110,7 +96,7 @@ pub fn newest(
                 origin: Origin::Frame(back),
             }
         }
-        Found::Nothing => Version {
+        None => Version {
             content: pages::lines::read_archive_line(archive, line),
             frame: cache::ARCHIVE,
             origin: Origin::Archive,
@@ -119,6 +105,7 @@ pub fn newest(
 }
 
 // The same from the entry of the cache that was found for the line, if one was: frames and bytes of its entries.
+#[tactic(auto, unfolding(crate::specs::Newest::latest_from))]
 pub fn latest(
     origins: &[u16; 32],
     bytes: &[u8; 512],
@@ -131,32 +118,30 @@ pub fn latest(
     pages: u32,
     live: u32,
     line: u32,
-    found: Entry,
+    found: Option<u32>,
 ) -> Version
     requires { (AsksNewest (written_at shape groups.now history.now) pages live line archive.now pool.now table.now) × (AsksFound found) }
     ensures { result ≡ latest_from origins.now bytes.now (newest_of (written_at shape groups.now history.now) pages live archive.now pool.now table.now line) found }
 {
     match found {
-        Entry::Hit(entry) => Version {
+        Some(entry) => Version {
             content: cache::line_at(bytes, entry),
             frame: cache::frame_of(origins, entry),
             origin: Origin::Cache,
         },
-        Entry::Miss => newest(
+        None => newest(
             archive, pool, groups, table, history, shape, pages, live, line,
         ),
     }
 }
 
 // Whether no surviving write has touched a line, by the frame of its version and its flag.
+#[tactic(auto, unfolding(crate::specs::Newest::is_empty))]
 pub fn is_empty(owners: &[u32], pages: u32, line: u32, frame: u16) -> bool
     requires { AsksFlag pages line (length owners.now) }
     ensures { result ≡ is_empty (collected_at pages owners.now line) frame }
 {
-    if frame != cache::ARCHIVE {
-        return false;
-    }
-    !pages::flags::is_collected(owners, pages, line)
+    frame == cache::ARCHIVE && !pages::flags::is_collected(owners, pages, line)
 }
 
 // Zeroes the archive's lines.
@@ -164,15 +149,11 @@ pub fn zero(archive: &mut [u8], lines: u32)
     requires { (lines ≤ 4096) × (16 * lines ≤ length archive.old) }
     ensures { archive.new ≡ zeroed lines archive.old }
 {
-    let count = 16 * lines;
-    let mut at = 0;
-    while at < count {
-        archive[at as usize] = 0;
-        at = at + 1;
-    }
+    archive[..16 * lines as usize].fill(0);
 }
 
 // Copies the version that a page has of a line, if the frame of an index wrote it, to the archive; the line is collected then.
+#[tactic(auto, unfolding(crate::specs::Steps::folded_line, crate::specs::Steps::flagged_line))]
 fn fold_line(
     archive: &mut [u8],
     pool: &[u8],
@@ -197,6 +178,7 @@ fn fold_line(
 }
 
 // Copies the versions that a page has of the lines of a block so.
+#[tactic(auto, unfolding(crate::specs::Steps::folded_page, crate::specs::Steps::folded_lines, crate::specs::Steps::flagged_page, crate::specs::Steps::flagged_lines))]
 fn fold_page(
     archive: &mut [u8],
     pool: &[u8],
@@ -215,8 +197,7 @@ fn fold_page(
     if ring.shape.lines / 8 <= block {
         return;
     }
-    let mut n = 0;
-    while n < 8 {
+    for n in 0..8 {
         fold_line(
             archive,
             pool,
@@ -228,12 +209,12 @@ fn fold_page(
             index,
             block * 8 + n,
         );
-        n = n + 1;
     }
 }
 
 // Folds the versions of the k oldest frames into the archive and sets their lines' flags, page after page from the ring's oldest on; how many pages
 // they have.
+#[tactic(auto, unfolding(crate::specs::Steps::folded_pages, crate::specs::Steps::flagged_pages))]
 pub fn fold(
     archive: &mut [u8],
     pool: &[u8],
@@ -248,9 +229,7 @@ pub fn fold(
         × (archive.new ≡ folded_pages (written_at ring.shape groups.now history.now) ring.pages ring.first pool.now owners.old result archive.old)
         × (owners.new ≡ flagged_pages (written_at ring.shape groups.now history.now) ring.pages ring.first owners.old result) }
 {
-    let used = ring.used;
-    let mut i = 0;
-    while i < used {
+    for i in 0..ring.used {
         let page = frames::frame_at(ring.pages, ring.first, i);
         let owner = owners[page as usize];
         let index = pages::segment::owner_index(ring.shape, owner);
@@ -268,12 +247,12 @@ pub fn fold(
             index,
             owner % 512,
         );
-        i = i + 1;
     }
-    i
+    ring.used
 }
 
 // Clears the bits of a page's frame in the lines of its block.
+#[tactic(auto, unfolding(crate::specs::Steps::cleared_page))]
 fn clear_page(groups: &mut [u32], shape: Shape, owner: u32)
     requires { (shape.lines ≤ 4096) × (owner / 512 ≤ 4096) × (owner % 512 < shape.lines / 8 → place_of shape.lines (owner / 512 / 16) (owner % 512 * 8) + 8 ≤ length groups.old) }
     ensures { groups.new ≡ cleared_page shape.lines owner groups.old }
@@ -286,19 +265,19 @@ fn clear_page(groups: &mut [u32], shape: Shape, owner: u32)
 }
 
 // Clears the bits of the ring's first pages so.
+#[tactic(auto, unfolding(crate::specs::Steps::cleared_pages))]
 pub fn clear(groups: &mut [u32], owners: &[u32], ring: Ring, gone: u32)
     requires { AsksGone ring.shape.lines ring.shape.frames ring.shape.omf ring.pages ring.first ring.used owners.now gone (length groups.old) }
     ensures { groups.new ≡ cleared_pages ring.shape.lines ring.pages ring.first owners.now gone groups.old }
 {
-    let mut i = 0;
-    while i < gone {
+    for i in 0..gone {
         let page = frames::frame_at(ring.pages, ring.first, i) as usize;
         clear_page(groups, ring.shape, owners[page]);
-        i = i + 1;
     }
 }
 
 // The page that a write to a line in a frame goes to: the place's own, and else the next of the ring.
+#[tactic(auto, unfolding(crate::specs::Steps::page_for, crate::specs::Steps::used_for))]
 pub fn page_for(table: &[u16], owners: &[u32], ring: Ring, frame: u32, line: u32) -> Choice
     requires { AsksPageFor ring.shape.lines ring.shape.frames ring.shape.omf ring.pages ring.first ring.used frame line (length table.now) (length owners.now) }
     ensures { (result.page ≡ page_for ring.shape.lines ring.pages ring.first ring.used table.now owners.now frame line)
@@ -307,13 +286,13 @@ pub fn page_for(table: &[u16], owners: &[u32], ring: Ring, frame: u32, line: u32
     let page = pages::table::page_at(table, ring.shape, frame, line / 8);
     if pages::segment::is_own(owners, ring, page, frame * 512 + line / 8) {
         return Choice {
-            page: Found::At(page),
+            page: Some(page),
             used: ring.used,
         };
     }
     Choice {
         page: pages::segment::next_page(ring),
-        used: numbers::min(ring.pages, ring.used + 1),
+        used: ring.pages.min(ring.used + 1),
     }
 }
 

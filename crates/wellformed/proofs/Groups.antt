@@ -1,58 +1,81 @@
 -- Tests of the groups of written bits. Assumes nothing.
-use mathlib.Core.Path.{◌≡◌, sym, ◌∙◌, ap}
+use Rattle.std.specs.Prelude.{Option, Some, None}
+use Rattle.std.specs.Option.{is_some}
+use mathlib.Core.Path.{◌≡◌, refl, sym, ◌∙◌, ap}
 use mathlib.Core.Bool.{Bool, true, false, not, ◌&&◌, false≢true}
 use mathlib.Core.List.{List}
 use Prim.Native.Nat.{ℕ, ◌+◌, ◌*◌, ◌/◌, ◌%◌, ◌≤◌, ◌<◌}
 use native.Mathlib.Omega.{arith}
 use borrow.Author.Tests.{le-leb}
 use lib.Dec.{leb}
-use lib.ListN.{get_or}
+use lib.ListN.{length, get_or, take}
+use Rattle.std.proofs.Math.Seq.{length-take-le}
+use Rattle.std.proofs.lemmas.List.{get_or-take}
+use Rattle.std.proofs.lemmas.Bool.Decides.{nat_tests}
+use Rattle.std.proofs.lemmas.Grind.{common_steps}
+use Rattle.std.specs.List.{IsEachAdjacentAnswer}
+use Rattle.std.specs.Ordering.{is_le, nat_cmp}
 use Rattle.rules.proofs.Count.{any_false, any_found}
 use Rattle.rules.proofs.Tests.{both_true}
 use Rattle.numbers.specs.Digits.{bit, newest_bit}
-use Rattle.numbers.specs.declared.Found.{Found}
-use Rattle.numbers.specs.declared.Found.TheVariants.{At, Nothing}
 use Rattle.numbers.proofs.Search.{greatest-nothing, greatest-found}
-use Rattle.written.specs.Bits.{Written, tag_of, effective, any_from, block_has, AsksBlock}
+use Rattle.written.specs.Bits.{Written, tag_of, effective, any_from, block_has}
 use Rattle.written.specs.Steps.{Ordered}
-use Rattle.written.specs.Well.{WellBits}
 use Rattle.written.proofs.Blocks.{false-from, true-from}
 use Rattle.written.proofs.Runs.{both_of}
 use Rattle.wellformed.specs.Decision.{Decides}
 use Rattle.written.specs.Well.{TagsKnown, OnlyLive}
 use Rattle.wellformed.specs.Parts.{AsksBits}
-use Rattle.wellformed.proofs.Deciding.{says-yes, says-no, passes, AllBelow}
+use Rattle.wellformed.proofs.Deciding.{says-yes, says-no, AllBelow}
 
 -- A group that has no bit set, or a tag that is in use.
 abbrev pub Known : (tag g : ℕ) → Type 0
 Known tag g = (q : ℕ) → q < 16 → bit g q ≡ true → tag_of g ≤ tag
 
-pub none-known : (tag g : ℕ) (r : Found) → r ≡ newest_bit g 0 16 → r ≡ Nothing → Known tag g
+pub none-known : (tag g : ℕ) (r : Option ℕ) → r ≡ newest_bit g 0 16 → is_some r ≡ false → Known tag g
 unfolding newest_bit
-none-known tag g r e h q b s =
+none-known tag g (Some p) e h q b s = absurd (false≢true (sym h))
+none-known tag g None e h q b s =
     absurd
     (false≢true
-    (sym (greatest-nothing 16 (λ q. leb 0 q && bit g q) (sym e ∙ h) q b) ∙ both_of (leb 0 q) (bit g q) (le-leb 0 q (omega arith)) s))
+    (sym (greatest-nothing 16 (λ q. leb 0 q && bit g q) (sym e) q b) ∙ both_of (leb 0 q) (bit g q) (le-leb 0 q (omega arith)) s))
 
 module _ (count tag : ℕ) (groups : List ℕ) (at : ℕ) where
-  pub tag-over : (q : ℕ) (r : Found) → at < count → r ≡ newest_bit (get_or groups at 0) 0 16 → r ≡ At q → tag < tag_of (get_or groups at 0)
+  -- What is read there of the first `count` groups.
+  pub group-read : count ≤ length groups → at < length (take count groups) → (at < count) × (get_or (take count groups) at 0 ≡ get_or groups at 0)
+  group-read few h =
+      let below : at < count = omega (arith, h, length-take-le count groups few) in
+      (below, get_or-take count groups at 0 below)
+
+  pub tag-over : (g : ℕ) (r : Option ℕ) → at < count → g ≡ get_or groups at 0 → r ≡ newest_bit g 0 16 → is_some r ≡ true → tag < tag_of g
       → Decides false (TagsKnown count tag groups)
   unfolding newest_bit
-  tag-over q r b e h over =
+  tag-over g None b same e h over = absurd (false≢true h)
+  tag-over g (Some q) b same e h over =
       says-no (λ known.
-      let found = greatest-found 16 (λ q. leb 0 q && bit (get_or groups at 0) q) q (sym e ∙ h) in
-      omega (arith, over, known at q b found.below (both_true (leb 0 q) (bit (get_or groups at 0) q) found.passes).1))
+      let found = greatest-found 16 (λ q. leb 0 q && bit g q) q (sym e) in
+      let set : bit (get_or groups at 0) q ≡ true = ap (λ (x : ℕ). bit x q) (sym same) ∙ (both_true (leb 0 q) (bit g q) found.passes).1 in
+      omega (arith, over, ap tag_of same, known at q b found.below set))
 
-  pub tags-end : AllBelow at (λ k. Known tag (get_or groups k 0)) → count ≤ at → Decides true (TagsKnown count tag groups)
-  tags-end h b = says-yes (λ k q c d s. h k (omega arith) q d s)
+-- The history in order, as the sort of a slice is told.
+pub sorted-ordered : (tag : ℕ) (history : List ℕ) (r : Bool) → tag < length history
+    → IsEachAdjacentAnswer (λ x y b. is_le (nat_cmp x y) ≡ b) (take (tag + 1) history) r → Decides r (Ordered tag history)
+sorted-ordered tag history true b h = says-yes (λ t c. grind (arith, common_steps, nat_tests, h t 0))
+sorted-ordered tag history false b (t, c, h) = says-no (λ o. grind (arith, common_steps, nat_tests, o t, h 0))
 
 -- Blocks without an effective bit from the first frame that is not live on.
 module _ (w : Written) (live : ℕ) where
   abbrev pub Still : ℕ → Type 0
   Still block = block_has w block live w.frames ≡ false
 
-  pub live-asks : (block : ℕ) → AsksBits w live → block < w.lines / 8 → AsksBlock w block w.frames
-  live-asks block a b = record { lent = a.lent; block_below = omega (arith, b); end_within = omega arith }
+  -- What the test of a block tells, yes and no.
+  pub still-yes : (block : ℕ) (r : Bool) → r ≡ block_has w block live w.frames → not r ≡ true → Still block
+  still-yes block true e t = absurd (false≢true t)
+  still-yes block false e t = sym e
+
+  pub still-no : (block : ℕ) (r : Bool) → r ≡ block_has w block live w.frames → not r ≡ false → Still block → ⊥
+  still-no block true e t s = false≢true (sym (e ∙ s))
+  still-no block false e t s = false≢true (sym t)
 
   pub live-fails : (block from : ℕ) (r : Bool) → live ≤ from → block < w.lines / 8 → r ≡ block_has w block from w.frames → r ≡ true → Decides false (OnlyLive w live)
   unfolding block_has
@@ -60,6 +83,13 @@ module _ (w : Written) (live : ℕ) where
       let n = any_found 8 (λ n. any_from from w.frames (λ i. effective w i (block * 8 + n))) (sym e ∙ t) in
       let k = true-from from w.frames (λ i. effective w i (block * 8 + n.0)) n.2 in
       says-no (λ h. false≢true (sym (h k.0 (block * 8 + n.0) (omega (arith, k.1)) k.2 (omega (arith, n.1))) ∙ k.3))
+
+  pub live-still : OnlyLive w live → (block : ℕ) → block < w.lines / 8 → Still block
+  live-still h block b = go (block_has w block live w.frames) refl
+    where
+      go : (t : Bool) → block_has w block live w.frames ≡ t → t ≡ false
+      go true e = sym ((live-fails block live true (omega arith) b (sym e) refl).always h)
+      go false e = refl
 
   pub live_end : (n : ℕ) → AsksBits w live → AllBelow n Still → w.lines / 8 ≤ n → Decides true (OnlyLive w live)
   unfolding block_has
@@ -72,13 +102,3 @@ module _ (w : Written) (live : ℕ) where
           ∙ false-from live w.frames (λ i. effective w i (l / 8 * 8 + l % 8))
           (any_false 8 (λ n. any_from live w.frames (λ i. effective w i (l / 8 * 8 + n))) (h (l / 8) (omega (arith, a.lines_by))) (l % 8) (omega arith))
           k c d
-
--- The whole test, where all but the last part passed.
-pub bits-end : (w : Written) (tag live : ℕ) (r s t : Bool) → AsksBits w live → tag ≤ 255 → get_or w.history tag 0 ≡ 65535
-    → Decides r (Ordered tag w.history) → not r ≡ false → Decides s (TagsKnown (w.frames / 16 * w.lines) tag w.groups) → not s ≡ false
-    → Decides t (OnlyLive w live) → Decides t (WellBits w tag live)
-bits-end w tag live r s t a b o d f e g h =
-    record {
-      only = λ y. record { lent = a.lent; tag_below = omega (arith, b); tags = passes s e g; open_tag = o; ordered = passes r d f; only_live = h.only y };
-      always = λ q. h.always q.only_live;
-    }

@@ -2,34 +2,24 @@
 use mathlib.Core.Path.{◌≡◌, refl, sym, ◌∙◌, ap, ap₂, subst}
 use mathlib.Core.Bool.{Bool, true, false, not, ◌&&◌, false≢true}
 use mathlib.Core.List.{List}
-use Prim.Native.Nat.{ℕ, zero, suc, ◌+◌, ◌*◌, ◌/◌, ◌%◌, ◌≤◌, ◌<◌}
+use Prim.Native.Nat.{ℕ, zero, suc, ◌+◌, ◌/◌, ◌%◌, ◌≤◌, ◌<◌}
 use native.Mathlib.Nat.{mul-le-mul, le_refl, suc-mul, mod-lt, div-lt_iff_lt-mul}
 use native.Mathlib.Numerals.{add-one}
 use native.Mathlib.Decide.{ℕ_discrete}
 use native.Mathlib.Omega.{arith}
 use borrow.Author.Tests.{lt-ltb, not-true, not-false}
 use lib.Arith.{digits_div, digits_mod}
-use lib.ListN.{length, get_or}
+use lib.ListN.{get_or}
 use Rattle.rules.specs.Seen.{needs}
 use Rattle.frames.specs.Circle.{index_of, frame_at}
-use Rattle.written.specs.Bits.{Written, AsksBlock, effective}
-use Rattle.pages.specs.Table.{blocks_of, place_at, entries_of, entry_of, needed_at, AsksTable, entry_at, AsksEntry}
+use Rattle.written.specs.Bits.{Written, effective}
+use Rattle.pages.specs.Table.{blocks_of, place_at, entries_of, entry_of, needed_at, AsksTable, entry_at}
 use Rattle.pages.specs.Ring.{nth_page, position_of, Paged, Rising, WellRing, owner_index, index_at, owns}
-use Rattle.pages.proofs.Needs.{place-frame, place-block, entries-few, needed-block, needed-place}
+use Rattle.pages.proofs.Needs.{place-frame, place-block, needed-block, needed-place}
 use Rattle.pages.proofs.Owning.{own-means, own_is}
 use Rattle.wellformed.specs.Decision.{Decides}
 use Rattle.wellformed.specs.Parts.{BackedIn, InOrder, PagedIn, AllPaged}
-use Rattle.wellformed.proofs.Deciding.{says-yes, says-no, fails, passes, part-fails}
-
--- what is asked to read the page of a frame and block
-pub page-asks : (w : Written) (table : List ℕ) (f b : ℕ) → AsksTable w table → f < w.frames → b < blocks_of w → AsksEntry w.lines f b (length table)
-page-asks w table f b a h c =
-    record {
-      lines_few = a.lent.lines_few;
-      frame_few = omega (arith, h, a.lent.frames_few);
-      block_few = omega (arith, c, a.lent.lines_few);
-      entry_below = omega (arith, mul-le-mul h (le_refl (blocks_of w)), suc-mul f (blocks_of w), a.table_long);
-    }
+use Rattle.wellformed.proofs.Deciding.{says-yes, says-no, passes, part-fails}
 
 -- A page, by its owner.
 module _ (w : Written) (table owners : List ℕ) (p : ℕ) where
@@ -61,28 +51,14 @@ module _ (w : Written) (table owners : List ℕ) (p : ℕ) where
         always = λ k. n ∙ (sym (owner-needed b) ∙ k.needed);
       }
 
-pub block-asks : (w : Written) (table : List ℕ) (f b : ℕ) → AsksTable w table → f < w.frames → b < blocks_of w → AsksBlock w b w.frames × (f < w.frames)
-block-asks w table f b a h c = (record { lent = a.lent; block_below = omega arith; end_within = omega arith }, h)
-
 -- The loop over the positions.
 pub record Walked (w : Written) (pages first : ℕ) (table owners : List ℕ) (i last : ℕ) : Type 0 where
   pub so_far : InOrder w pages first i table owners
   pub none : i ≡ 0 → last ≡ 0
   pub last_is : (j : ℕ) → j + 1 ≡ i → last ≡ index_at w.frames w.omf pages first owners j
 
-pub walked_start : (w : Written) (pages first : ℕ) (table owners : List ℕ) → Walked w pages first table owners 0 0
-walked_start w pages first table owners =
-    record {
-      so_far = record { backed = λ i b. absurd (omega arith); steps = λ i b. absurd (omega arith) };
-      none = λ e. refl;
-      last_is = λ j e. absurd (omega arith);
-    }
-
 module _ (w : Written) (pages first used : ℕ) (table owners : List ℕ) (i last page : ℕ) (h : Walked w pages first table owners i last) (below : i < used)
     (at : page ≡ frame_at pages first i) where
-  pub walked-unbacked : (r : Bool) → Decides r (BackedIn w table owners page) → not r ≡ true → Decides false (InOrder w pages first used table owners)
-  walked-unbacked r d e = says-no (λ s. fails r d e (subst (BackedIn w table owners) (sym at) (s.backed i below)))
-
   index-here : (index : ℕ) → index ≡ owner_index w.frames w.omf (get_or owners page 0) → index ≡ index_at w.frames w.omf pages first owners i
   unfolding index_at
   index-here index e = e ∙ ap (λ (q : ℕ). owner_index w.frames w.omf (get_or owners q 0)) at
@@ -122,11 +98,6 @@ module _ (w : Written) (pages first used : ℕ) (table owners : List ℕ) (i las
           omega (arith, h.last_is k z, index-here index e, ap (index_at w.frames w.omf pages first owners) z)
       steps k b (no z) = h.so_far.steps k (omega arith)
 
-pub walked_end : (w : Written) (pages first used : ℕ) (table owners : List ℕ) (i last : ℕ) → Walked w pages first table owners i last → used ≤ i
-    → Decides true (InOrder w pages first used table owners)
-walked_end w pages first used table owners i last h b =
-    says-yes (record { backed = λ k c. h.so_far.backed k (omega arith); steps = λ k c. h.so_far.steps k (omega arith) })
-
 -- Neighbours in order are all in order.
 pub steps-rising : (n : ℕ) (f : ℕ → ℕ) → ((i : ℕ) → i + 1 < n → f i ≤ f (i + 1)) → Rising n f
 steps-rising n f s i zero a b = let z : i ≡ 0 = omega arith in omega (arith, ap f z)
@@ -153,20 +124,11 @@ module _ (w : Written) (table owners : List ℕ) (pages first used entry : ℕ) 
   block_few : block < blocks_of w
   block_few = mod-lt entry some-blocks
 
-  pub entry-asks : AsksBlock w block w.frames × (frame < w.frames)
-  entry-asks = (record { lent = a.lent; block_below = omega (arith, block_few); end_within = omega arith }, frame_few)
-
-  pub entry-code : frame * 512 < 2097152
-  entry-code = omega (arith, frame_few, a.lent.frames_few)
-
   wide : block < 512
   wide = omega (arith, block_few, a.lent.lines_few)
 
   own-entry : entry_of w (place_at frame block) ≡ entry_at w.lines frame block
   own-entry = ap₂ (λ (x y : ℕ). entry_at w.lines x y) (place-frame frame block wide) (place-block frame block wide)
-
-  pub entry-page : AsksEntry w.lines frame block (length table)
-  entry-page = page-asks w table frame block a frame_few block_few
 
   needed_here : needed_at w (place_at frame block) ≡ needs (effective w (index_of w.frames w.omf frame)) block
   needed_here = needed-place w frame block a.lent.lines_few block_few
@@ -204,9 +166,6 @@ module _ (w : Written) (table owners : List ℕ) (pages first used entry : ℕ) 
           }
 
 -- Every needed place is that of an entry.
-pub entry_few : (w : Written) (table : List ℕ) → AsksTable w table → entries_of w ≤ 2097152
-entry_few w table a = entries-few w.lines w.frames a.lent.lines_few a.lent.frames_few
-
 module _ (w : Written) (pages first used : ℕ) (table owners : List ℕ) where
   abbrev pub EntryPaged : ℕ → Type 0
   EntryPaged entry = PagedIn w pages first used table owners (place_at (entry / (w.lines / 8)) (entry % (w.lines / 8)))

@@ -1,6 +1,6 @@
 -- The tests of the cache's entries and sets. Assumes nothing.
 use mathlib.Core.Path.{◌≡◌, refl, sym, ◌∙◌, ap}
-use mathlib.Core.Bool.{Bool, true, false, not, cond}
+use mathlib.Core.Bool.{Bool, true, false, cond}
 use mathlib.Core.Option.{Option, none, some}
 use Prim.Native.Nat.{ℕ, ◌+◌, ◌*◌, ◌%◌, ◌≤◌, ◌<◌}
 use native.Mathlib.Omega.{arith}
@@ -14,30 +14,12 @@ use Rattle.cache.specs.Shown.{line_in, shown}
 use Rattle.cache.proofs.Hits.{valid-below}
 use Rattle.wellformed.specs.Decision.{Decides}
 use Rattle.wellformed.specs.Parts.{SetWell}
-use Rattle.wellformed.proofs.Deciding.{says-yes, says-no, passes, part-fails, AllBelow}
+use Rattle.wellformed.proofs.Deciding.{says-yes, AllBelow}
 
 -- A set: its two entries, and not both with one line.
 module _ (lines : ℕ) (c : Cache) (set : ℕ) where
   abbrev Home : ℕ → Type 0
   Home e = get_or c.valid e 0 ≡ 1 → (held_line c e % 16 ≡ set) × (held_line c e < lines)
-
-  pub twice : get_or c.valid (2 * set) 0 ≡ 1 → get_or c.valid (2 * set + 1) 0 ≡ 1 → held_line c (2 * set) ≡ held_line c (2 * set + 1)
-      → Decides false (SetWell lines c set)
-  twice v w e = says-no (λ s. s.once v w e)
-
-  module _ (r s : Bool) (d : Decides r (Home (2 * set))) (f : not r ≡ false) (e : Decides s (Home (2 * set + 1))) (g : not s ≡ false) where
-    once-passes : (get_or c.valid (2 * set) 0 ≡ 1 → get_or c.valid (2 * set + 1) 0 ≡ 1 → held_line c (2 * set) ≡ held_line c (2 * set + 1) → ⊥)
-        → Decides true (SetWell lines c set)
-    once-passes once = says-yes record { first = passes r d f; second = passes s e g; once = once }
-
-    pub first-free : (get_or c.valid (2 * set) 0 ≡ 1 → ⊥) → Decides true (SetWell lines c set)
-    first-free n = once-passes (λ v w q. n v)
-
-    pub second-free : (get_or c.valid (2 * set + 1) 0 ≡ 1 → ⊥) → Decides true (SetWell lines c set)
-    second-free n = once-passes (λ v w q. n w)
-
-    pub apart : (held_line c (2 * set) ≡ held_line c (2 * set + 1) → ⊥) → Decides true (SetWell lines c set)
-    apart n = once-passes (λ v w q. n q)
 
 -- An entry as a way of Figure 3's cache.
 module _ (c : Cache) (e : ℕ) where
@@ -60,15 +42,14 @@ module _ (c : Cache) (e : ℕ) where
 
 -- All sets; those past the 16th have no valid entry.
 module _ (lines : ℕ) (c : Cache) where
-  pub set_fails : (set : ℕ) (r : Bool) → Decides r (SetWell lines c set) → not r ≡ true → Decides false (WellCache (settings_of lines 0 0) (shown c))
+  pub well-set : WellCache (settings_of lines 0 0) (shown c) → (set : ℕ) → SetWell lines c set
   unfolding shown
-  set_fails set r =
-      part-fails r (λ well.
+  well-set well set =
       record {
         first = λ v. well.first set _ (in-valid c (2 * set) v);
         second = λ v. well.second set _ (in-valid c (2 * set + 1) v);
         once = λ v w e. well.once set _ (in-valid c (2 * set) v) (in-valid c (2 * set + 1) w ∙ ap {B = Option ℕ} some (sym e));
-      })
+      }
 
   line-home : (set e l : ℕ) → Within c e l → Home lines c set e → (l % 16 ≡ set) × (l < lines)
   line-home set e l x h =

@@ -18,7 +18,6 @@ ghost use Rattle.wellformed.specs.Decision.{Decides};
 ghost use Rattle.wellformed.specs.Parts.{BackedIn, InOrder, PagedIn, AllPaged, SetWell, CollectedOrZero, WellArchive, RecentIn, Bytes, AsksBits, AsksRecent};
 
 use cache::Cache;
-use numbers::Found;
 use pages::Ring;
 use written::Shape;
 
@@ -27,18 +26,10 @@ fn tags_known(groups: &[u32], count: u32, tag: u32) -> bool
     requires { count ≤ length groups.now }
     ensures { Decides result (TagsKnown count tag groups.now) }
 {
-    let mut at = 0;
-    while at < count {
-        let group = groups[at as usize];
-        match numbers::newest_bit(group, 0, 16) {
-            Found::At(_) => {
-                if tag < group / 65536 % 256 {
-                    return false;
-                }
-            }
-            Found::Nothing => {}
+    for &group in &groups[..count as usize] {
+        if numbers::newest_bit(group, 0, 16).is_some() && tag < group / 65536 % 256 {
+            return false;
         }
-        at = at + 1;
     }
     true
 }
@@ -48,15 +39,7 @@ fn is_ordered(history: &[u16], tag: u32) -> bool
     requires { (tag < 256) × (256 ≤ length history.now) }
     ensures { Decides result (Ordered tag history.now) }
 {
-    let last = tag as usize;
-    let mut t = 0;
-    while t < last {
-        if history[t + 1] < history[t] {
-            return false;
-        }
-        t = t + 1;
-    }
-    true
+    history[..=tag as usize].is_sorted()
 }
 
 // Whether only live frames have effective bits.
@@ -64,15 +47,8 @@ fn only_live(groups: &[u32], history: &[u16], shape: Shape, live: u32) -> bool
     requires { AsksBits (written_at shape groups.now history.now) live }
     ensures { Decides result (OnlyLive (written_at shape groups.now history.now) live) }
 {
-    let blocks = shape.lines / 8;
-    let mut block = 0;
-    while block < blocks {
-        if written::block_has(groups, history, shape, block, live, shape.frames) {
-            return false;
-        }
-        block = block + 1;
-    }
-    true
+    let end = shape.frames;
+    (0..shape.lines / 8).all(|block| !written::block_has(groups, history, shape, block, live, end))
 }
 
 // Whether the written bits and the history are well-formed.
@@ -80,22 +56,15 @@ pub fn bits(groups: &[u32], history: &[u16], shape: Shape, tag: u32, live: u32) 
     requires { AsksBits (written_at shape groups.now history.now) live }
     ensures { Decides result (WellBits (written_at shape groups.now history.now) tag live) }
 {
-    if 255 < tag {
-        return false;
-    }
-    if history[tag as usize] != 65535 {
-        return false;
-    }
-    if !is_ordered(history, tag) {
-        return false;
-    }
-    if !tags_known(groups, shape.frames / 16 * shape.lines, tag) {
-        return false;
-    }
-    only_live(groups, history, shape, live)
+    tag < 256
+        && history[tag as usize] == 65535
+        && is_ordered(history, tag)
+        && tags_known(groups, shape.frames / 16 * shape.lines, tag)
+        && only_live(groups, history, shape, live)
 }
 
 // Whether a page's owner is a needed place for which the table has the page.
+#[tactic(auto, unfolding(crate::specs::Parts::BackedIn))]
 fn is_backed(
     groups: &[u32],
     history: &[u16],
@@ -111,16 +80,11 @@ fn is_backed(
     let owner = owners[page as usize];
     let frame = owner / 512;
     let block = owner % 512;
-    if shape.frames <= frame {
+    if shape.frames <= frame || shape.lines / 8 <= block {
         return false;
     }
-    if shape.lines / 8 <= block {
-        return false;
-    }
-    if pages::table::page_at(table, shape, frame, block) != page {
-        return false;
-    }
-    written::needed(groups, history, shape, frame, block)
+    pages::table::page_at(table, shape, frame, block) == page
+        && written::needed(groups, history, shape, frame, block)
 }
 
 // Whether every page of the segment is backed, and the owners' indexes never fall along it.
@@ -128,10 +92,8 @@ fn in_order(groups: &[u32], history: &[u16], table: &[u16], owners: &[u32], ring
     requires { (AsksTable (written_at ring.shape groups.now history.now) table.now) × (AsksRing ring.pages ring.first ring.used ring.shape.frames ring.shape.omf (length owners.now)) }
     ensures { Decides result (InOrder (written_at ring.shape groups.now history.now) ring.pages ring.first ring.used table.now owners.now) }
 {
-    let used = ring.used;
-    let mut i = 0;
     let mut last = 0;
-    while i < used {
+    for i in 0..ring.used {
         let page = frames::frame_at(ring.pages, ring.first, i);
         if !is_backed(groups, history, table, owners, ring, page) {
             return false;
@@ -141,12 +103,12 @@ fn in_order(groups: &[u32], history: &[u16], table: &[u16], owners: &[u32], ring
             return false;
         }
         last = index;
-        i = i + 1;
     }
     true
 }
 
 // Whether the place of an entry of the table, if it is needed, has a page of the segment, and owns it.
+#[tactic(auto, unfolding(crate::specs::Parts::PagedIn))]
 fn is_paged(
     groups: &[u32],
     history: &[u16],
@@ -176,14 +138,7 @@ fn all_paged(groups: &[u32], history: &[u16], table: &[u16], owners: &[u32], rin
 {
     let shape = ring.shape;
     let entries = shape.frames * (shape.lines / 8);
-    let mut entry = 0;
-    while entry < entries {
-        if !is_paged(groups, history, table, owners, ring, entry) {
-            return false;
-        }
-        entry = entry + 1;
-    }
-    true
+    (0..entries).all(|entry| is_paged(groups, history, table, owners, ring, entry))
 }
 
 // Whether the needed pages are one segment of the pool's circle, in the order of their frames.
@@ -191,32 +146,18 @@ pub fn ring(groups: &[u32], history: &[u16], table: &[u16], owners: &[u32], ring
     requires { (AsksTable (written_at ring.shape groups.now history.now) table.now) × (ring.pages ≤ 4096) × (ring.pages ≤ length owners.now) }
     ensures { Decides result (WellRing (written_at ring.shape groups.now history.now) ring.pages ring.first ring.used table.now owners.now) }
 {
-    if ring.pages <= ring.first {
+    if ring.pages <= ring.first || ring.pages < ring.used {
         return false;
     }
-    if ring.pages < ring.used {
-        return false;
-    }
-    if !in_order(groups, history, table, owners, ring) {
-        return false;
-    }
-    all_paged(groups, history, table, owners, ring)
+    in_order(groups, history, table, owners, ring)
+        && all_paged(groups, history, table, owners, ring)
 }
 
 // Whether an entry, if it is valid, holds a line of its set and below L.
 fn is_home(valid: u8, line: u32, set: u32, lines: u32) -> bool
     ensures { Decides result (valid ≡ 1 → (line % 16 ≡ set) × (line < lines)) }
 {
-    if valid != 1 {
-        return true;
-    }
-    if line % 16 != set {
-        return false;
-    }
-    if lines <= line {
-        return false;
-    }
-    true
+    valid != 1 || line % 16 == set && line < lines
 }
 
 // Whether the two entries of a set are well-formed: each in its own set and below L, and not both with one line.
@@ -226,63 +167,28 @@ fn is_set_well(cache: Cache, lines: u32, set: u32) -> bool
 {
     let first = 2 * (set as usize);
     let second = first + 1;
-    if !is_home(cache.valid[first], cache.held[first], set, lines) {
-        return false;
-    }
-    if !is_home(cache.valid[second], cache.held[second], set, lines) {
-        return false;
-    }
-    if cache.valid[first] != 1 {
-        return true;
-    }
-    if cache.valid[second] != 1 {
-        return true;
-    }
-    if cache.held[first] == cache.held[second] {
-        return false;
-    }
-    true
+    is_home(cache.valid[first], cache.held[first], set, lines)
+        && is_home(cache.valid[second], cache.held[second], set, lines)
+        && !(cache.valid[first] == 1
+            && cache.valid[second] == 1
+            && cache.held[first] == cache.held[second])
 }
 
 // Whether each valid entry of the cache is in its own set, once, and below L. (Of the settings only L matters.)
 pub fn entries(cache: Cache, lines: u32) -> bool
     ensures { Decides result (WellCache (settings_of lines 0 0) (shown cache)) }
 {
-    let mut set = 0;
-    while set < 16 {
-        if !is_set_well(cache, lines, set) {
-            return false;
-        }
-        set = set + 1;
-    }
-    true
-}
-
-// Whether two lines have the same bytes.
-fn is_same(a: [u8; 16], b: [u8; 16]) -> bool
-    ensures { Decides result (a ≡ b) }
-{
-    let mut i = 0;
-    while i < 16 {
-        if a[i] != b[i] {
-            return false;
-        }
-        i = i + 1;
-    }
-    true
+    (0..16).all(|set| is_set_well(cache, lines, set))
 }
 
 // Whether a line, if it was not collected, is zero in the archive.
+#[tactic(auto, unfolding(crate::specs::Parts::CollectedOrZero))]
 fn is_collected_or_zero(archive: &[u8], owners: &[u32], pages: u32, line: u32) -> bool
     requires { (AsksArchive line (length archive.now)) × (AsksFlag pages line (length owners.now)) }
     ensures { Decides result (CollectedOrZero pages archive.now owners.now line) }
 {
-    if pages::flags::is_collected(owners, pages, line) {
-        return true;
-    }
-    let zeros = [0u8; 16];
-    let content = pages::lines::read_archive_line(archive, line);
-    is_same(content, zeros)
+    pages::flags::is_collected(owners, pages, line)
+        || pages::lines::read_archive_line(archive, line) == [0; 16]
 }
 
 // Whether the archive is well-formed: every line is so.
@@ -290,14 +196,7 @@ pub fn archive(archive: &[u8], owners: &[u32], lines: u32, pages: u32) -> bool
     requires { (lines ≤ 4096) × (lines % 8 ≡ 0) × (pages ≤ 4096) × (16 * lines ≤ length archive.now) × (pages + lines ≤ length owners.now) }
     ensures { Decides result (WellArchive lines pages archive.now owners.now) }
 {
-    let mut line = 0;
-    while line < lines {
-        if !is_collected_or_zero(archive, owners, pages, line) {
-            return false;
-        }
-        line = line + 1;
-    }
-    true
+    (0..lines).all(|line| is_collected_or_zero(archive, owners, pages, line))
 }
 
 // Whether an entry's line, frame and bytes are those of the line's most recent version in memory.
@@ -323,11 +222,7 @@ fn is_recent(
     let newest = versions::newest(
         archive, pool, groups, table, history, shape, pages, live, line,
     );
-    if newest.frame != frame {
-        return false;
-    }
-    let bytes = newest.content;
-    is_same(content, bytes)
+    newest.frame == frame && newest.content == content
 }
 
 // Whether every valid entry of the cache has its line's most recent frame and bytes.
@@ -346,15 +241,10 @@ pub fn coherent(
     ensures decides { Decides result (All (RecentIn (written_at shape groups.now history.now) pages live archive.now pool.now table.now) cache) }
     ensures sized { Sized cache }
 {
-    let held = cache.held;
-    let numbers = cache.origins;
-    let valid = cache.valid;
-    let mut e = 0;
-    while e < 32 {
+    for e in 0..32 {
         let at = e as usize;
-        if valid[at] == 1 {
-            let content = cache::bytes_of(cache, e);
-            if !is_recent(
+        if cache.valid[at] == 1
+            && !is_recent(
                 archive,
                 pool,
                 groups,
@@ -363,26 +253,19 @@ pub fn coherent(
                 shape,
                 pages,
                 live,
-                held[at],
-                numbers[at],
-                content,
-            ) {
-                return false;
-            }
+                cache.held[at],
+                cache.origins[at],
+                cache::bytes_of(cache, e),
+            )
+        {
+            return false;
         }
-        e = e + 1;
     }
     true
 }
 
-// Reads the first bytes of a lent piece: each is one, as its type says, and the loop is what tells the prover.
+// That the first elements of a lent piece are bytes is in its type, and code that has the piece learns it here.
 pub fn bytes(list: &[u8], count: u32)
     requires { count ≤ length list.now }
     ensures { Bytes count list.now }
-{
-    let mut i = 0;
-    while i < count {
-        numbers::widen_u8(list[i as usize]);
-        i = i + 1;
-    }
-}
+{}

@@ -3,13 +3,16 @@
 #![tactic(auto)]
 
 ghost use Rattle.std.specs.Prelude.{◌≡◌, ◌/◌, ◌<◌, length};
+ghost use Rattle.std.specs.Result.{result_unwrap_or};
+ghost use Rattle.rules.specs.Refusals.{refusal_in};
 ghost use Rattle.cache.specs.Entries.{cache_of};
 ghost use Rattle.storage.specs.Storage.{state_of, storage_of};
 ghost use Rattle.storage.specs.Steps.{given_registers};
 ghost use Rattle.storage.specs.Clauses.{WritesBlock};
 ghost use Rattle.write_blocks.specs.Items.{item_of, item_at, items_of};
 
-use storage::{Given, Registers};
+use rules::Refusal;
+use storage::Registers;
 
 // An item: a single WRITE.
 #[derive(Clone, Copy)]
@@ -48,28 +51,21 @@ pub fn write_block(
     history: &[u16],
     items: &[u32],
     answers: &mut [u32],
-) -> Given
+) -> Result<u32, Refusal>
     ensures { WritesBlock
         (storage_of (state_of registers (cache_of held.old origins.old valid.old bytes.old last.old)) archive.now pool.old groups.old table.old owners.old history.now)
-        (items_of items.now) answers.old result.refusal answers.new
-        (storage_of (state_of (given_registers registers result.used) (cache_of held.new origins.new valid.new bytes.new last.new)) archive.now pool.new groups.new table.new owners.new history.now) }
+        (items_of items.now) answers.old (refusal_in result) answers.new
+        (storage_of (state_of (given_registers registers (result_unwrap_or result registers.used)) (cache_of held.new origins.new valid.new bytes.new last.new)) archive.now pool.new groups.new table.new owners.new history.now) }
 {
     let count = items.len() / 3;
     let lengths = storage::measure(archive, pool, groups, table, owners, history);
-    let refusal = storage::admit_write_block(registers, lengths, count, answers.len());
-    if refusal != 0 {
-        return Given {
-            used: registers.used,
-            refusal,
-        };
-    }
+    storage::admit_write_block(registers, lengths, count, answers.len())?;
     let mut used = registers.used;
-    let mut i = 0;
-    while i < count {
+    for i in 0..count {
         let item = item_at(items, i);
         let mut current = registers;
         current.used = used;
-        let given = writing::write_admitted(
+        let written = writing::write_admitted(
             current,
             held,
             origins,
@@ -86,9 +82,8 @@ pub fn write_block(
             item.address,
             item.value,
         );
-        used = given.used;
-        answers[i] = given.refusal;
-        i = i + 1;
+        answers[i] = rules::refusal_number(&written);
+        used = written.unwrap_or(used);
     }
-    Given { used, refusal: 0 }
+    Ok(used)
 }

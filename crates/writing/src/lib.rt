@@ -3,9 +3,11 @@
 #![tactic(auto)]
 
 ghost use Rattle.std.specs.Prelude.{◌≡◌, ◌*◌, ◌/◌, ◌%◌};
+ghost use Rattle.std.specs.Result.{result_unwrap_or};
 ghost use Rattle.std.proofs.Math.ListN;
 ghost use Rattle.rules.specs.Line.{line_of, offset_of, edit};
 ghost use Rattle.rules.specs.Refusal.{write_refusal};
+ghost use Rattle.rules.specs.Refusals.{refusal_in};
 ghost use Rattle.lists.specs.Lines.{paste_line};
 ghost use Rattle.written.specs.Bits.{written_at};
 ghost use Rattle.written.specs.Steps.{renewed};
@@ -16,9 +18,8 @@ ghost use Rattle.storage.specs.Admit.{admitted};
 ghost use Rattle.storage.specs.Steps.{given_registers, named_page, Put, AsksWrite, AsksEdit};
 ghost use Rattle.storage.specs.Clauses.{Writes};
 
-use cache::Entry;
-use numbers::Found;
-use storage::{Given, Registers};
+use rules::Refusal;
+use storage::Registers;
 
 // Writes a value to the most recent version of its line and puts the line in a page of CMF and in the cache.
 fn put_value(
@@ -37,7 +38,7 @@ fn put_value(
     width: u32,
     address: u32,
     value: u32,
-    found: Entry,
+    found: Option<u32>,
     live: u32,
     page: u32,
 )
@@ -109,7 +110,7 @@ fn write_again(
     let offset = address % 16;
     let shape = storage::shape(registers);
     let named = pages::table::page_at(table, shape, registers.cmf, line / 8);
-    let page = numbers::min(named, registers.pages - 1);
+    let page = named.min(registers.pages - 1);
     pages::lines::edit_page_line(pool, page, line % 8, width, offset, value);
     cache::edit_at(bytes, entry, width, offset, value);
     written::renew(
@@ -123,7 +124,8 @@ fn write_again(
     cache::recall(last, entry);
 }
 
-// WRITE past its tests, the long way: to the line's page in CMF, which is the one that its block has there or the next of the ring.
+// WRITE past its tests, the long way: to the line's page in CMF, which is the one that its block has there or the next of the ring. Gives how many
+// pages are in use then.
 fn write_newly(
     registers: Registers,
     held: &mut [u32; 32],
@@ -140,37 +142,31 @@ fn write_newly(
     width: u32,
     address: u32,
     value: u32,
-    found: Entry,
-) -> Given
+    found: Option<u32>,
+) -> Result<u32, Refusal>
     requires { (admitted (registers_of registers) (lengths_in (memory_of archive.now pool.old groups.old table.old owners.old history.now)) 0 ≡ 0) × (write_refusal (settings_at registers) width address value 0 ≡ 0) × (found ≡ hit_in held.old valid.old (line_of address)) }
     ensures { Writes
         (storage_of (state_of registers (cache_of held.old origins.old valid.old bytes.old last.old)) archive.now pool.old groups.old table.old owners.old history.now)
-        width address value result.refusal
-        (storage_of (state_of (given_registers registers result.used) (cache_of held.new origins.new valid.new bytes.new last.new)) archive.now pool.new groups.new table.new owners.new history.now) }
+        width address value (refusal_in result)
+        (storage_of (state_of (given_registers registers (result_unwrap_or result registers.used)) (cache_of held.new origins.new valid.new bytes.new last.new)) archive.now pool.new groups.new table.new owners.new history.now) }
 {
     let live = frames::live(registers.frames, registers.omf, registers.cmf);
     let ring = storage::ring(registers);
     let choice = versions::page_for(table, owners, ring, registers.cmf, address / 16);
     let chosen = choice.page;
     match chosen {
-        Found::At(page) => {
+        Some(page) => {
             put_value(
                 registers, held, origins, valid, bytes, last, archive, pool, groups, table, owners,
                 history, width, address, value, found, live, page,
             );
-            Given {
-                used: choice.used,
-                refusal: 0,
-            }
+            Ok(choice.used)
         }
-        Found::Nothing => Given {
-            used: registers.used,
-            refusal: 13,
-        },
+        None => Err(Refusal::Pages),
     }
 }
 
-// WRITE past 5 and 6.
+// WRITE past 5 and 6; gives the pages in use, the one register that it may change.
 pub fn write_admitted(
     registers: Registers,
     held: &mut [u32; 32],
@@ -187,39 +183,30 @@ pub fn write_admitted(
     width: u32,
     address: u32,
     value: u32,
-) -> Given
+) -> Result<u32, Refusal>
     requires { admitted (registers_of registers) (lengths_in (memory_of archive.now pool.old groups.old table.old owners.old history.now)) 0 ≡ 0 }
     ensures { Writes
         (storage_of (state_of registers (cache_of held.old origins.old valid.old bytes.old last.old)) archive.now pool.old groups.old table.old owners.old history.now)
-        width address value result.refusal
-        (storage_of (state_of (given_registers registers result.used) (cache_of held.new origins.new valid.new bytes.new last.new)) archive.now pool.new groups.new table.new owners.new history.now) }
+        width address value (refusal_in result)
+        (storage_of (state_of (given_registers registers (result_unwrap_or result registers.used)) (cache_of held.new origins.new valid.new bytes.new last.new)) archive.now pool.new groups.new table.new owners.new history.now) }
 {
-    let refusal = storage::write_refusal(registers, width, address, value);
-    if refusal != 0 {
-        return Given {
-            used: registers.used,
-            refusal,
-        };
-    }
+    storage::write_refusal(registers, width, address, value)?;
     let found = cache::find(held, valid, address / 16);
     match cache::of_frame(origins, found, registers.cmf) {
-        Entry::Hit(entry) => {
+        Some(entry) => {
             write_again(
                 registers, bytes, last, pool, groups, table, history, width, address, value, entry,
             );
-            Given {
-                used: registers.used,
-                refusal: 0,
-            }
+            Ok(registers.used)
         }
-        Entry::Miss => write_newly(
+        None => write_newly(
             registers, held, origins, valid, bytes, last, archive, pool, groups, table, owners,
             history, width, address, value, found,
         ),
     }
 }
 
-// WRITE.
+// WRITE; gives the pages in use, the one register that it may change.
 pub fn write(
     registers: Registers,
     held: &mut [u32; 32],
@@ -236,20 +223,14 @@ pub fn write(
     width: u32,
     address: u32,
     value: u32,
-) -> Given
+) -> Result<u32, Refusal>
     ensures { Writes
         (storage_of (state_of registers (cache_of held.old origins.old valid.old bytes.old last.old)) archive.now pool.old groups.old table.old owners.old history.now)
-        width address value result.refusal
-        (storage_of (state_of (given_registers registers result.used) (cache_of held.new origins.new valid.new bytes.new last.new)) archive.now pool.new groups.new table.new owners.new history.now) }
+        width address value (refusal_in result)
+        (storage_of (state_of (given_registers registers (result_unwrap_or result registers.used)) (cache_of held.new origins.new valid.new bytes.new last.new)) archive.now pool.new groups.new table.new owners.new history.now) }
 {
     let lengths = storage::measure(archive, pool, groups, table, owners, history);
-    let refusal = storage::admit(registers, lengths);
-    if refusal != 0 {
-        return Given {
-            used: registers.used,
-            refusal,
-        };
-    }
+    storage::admit(registers, lengths)?;
     write_admitted(
         registers, held, origins, valid, bytes, last, archive, pool, groups, table, owners,
         history, width, address, value,

@@ -1,4 +1,6 @@
 -- Whether a run, a line or a block has a standing bit in a window of indexes. Assumes nothing.
+use Rattle.std.specs.Prelude.{Option, Some, None}
+use Rattle.std.specs.Option.{is_some}
 use mathlib.Core.Path.{◌≡◌, refl, sym, ◌∙◌, ap, ap₂}
 use mathlib.Core.Bool.{Bool, true, false, ◌&&◌}
 use Prim.Native.Nat.{ℕ, ◌+◌, ◌-◌, ◌*◌, ◌/◌, ◌%◌, ◌≤◌, ◌<◌, min}
@@ -13,8 +15,6 @@ use Rattle.rules.proofs.Count.{any_same, any-true, any_none, any_false, any_foun
 use Rattle.rules.proofs.Tests.{both_true}
 use Rattle.frames.specs.Circle.{frame_at}
 use Rattle.numbers.specs.Digits.{bit, newest_bit}
-use Rattle.numbers.specs.declared.Found.{Found}
-use Rattle.numbers.specs.declared.Found.TheVariants.{At, Nothing}
 use Rattle.numbers.proofs.Search.{greatest-nothing, greatest-found}
 use Rattle.written.specs.Bits.{Written, Asks, place_of, bound_of, standing, effective, any_from, stands_in, run_has, block_has, up_of}
 use Rattle.written.proofs.Areas.{frame-up, up-area, up-place}
@@ -51,8 +51,8 @@ from-same from end f g h = any_same end _ _ (λ k b. same k b (dec_le from k))
         ap (λ (t : Bool). t && f k) (lt-leb from k (omega arith)) ∙ sym (ap (λ (t : Bool). t && g k) (lt-leb from k (omega arith)))
 
 -- One group, from position p with index i up, in the form in which the code has it.
-module _ (g bound p i up m t : ℕ) (r : Found) where
-  pub stands_at : (q : ℕ) → m ≡ bound + p - i → t ≡ min (p + up) m → r ≡ newest_bit g p t → r ≡ At q → true ≡ stands_in g bound p i up
+module _ (g bound p i up m t : ℕ) (r : Option ℕ) where
+  pub stands_at : (q : ℕ) → m ≡ bound + p - i → t ≡ min (p + up) m → r ≡ newest_bit g p t → r ≡ Some q → true ≡ stands_in g bound p i up
   unfolding newest_bit stands_in standing
   stands_at q em et e h =
       let found = greatest-found t (λ q. leb p q && bit g q) q (sym e ∙ h) in
@@ -65,7 +65,7 @@ module _ (g bound p i up m t : ℕ) (r : Found) where
       sym (from-true i (i + up) k (λ k. standing g (k + p - i) k bound) (omega arith) (omega arith)
       (both_of _ _ (ap (bit g) back ∙ w.1) (lt-ltb k bound (omega arith))))
 
-  pub stands-none : m ≡ bound + p - i → t ≡ min (p + up) m → r ≡ newest_bit g p t → r ≡ Nothing → false ≡ stands_in g bound p i up
+  pub stands-none : m ≡ bound + p - i → t ≡ min (p + up) m → r ≡ newest_bit g p t → r ≡ None → false ≡ stands_in g bound p i up
   unfolding newest_bit stands_in standing
   stands-none em et e h =
       sym (from_false i (i + up) (λ k. standing g (k + p - i) k bound) (λ k a b. none k a b (dec_lt k bound)))
@@ -79,6 +79,11 @@ module _ (g bound p i up m t : ℕ) (r : Found) where
           let nothing = greatest-nothing t (λ q. leb p q && bit g q) (sym e ∙ h) q (omega (arith, et, under, under-bound)) in
           ap (λ (z : Bool). z && ltb k bound) (sym (ap (λ (z : Bool). z && bit g q) (le-leb p q over)) ∙ nothing)
       none k a b (no d) = none_of (bit g (k + p - i)) (ltb k bound) (λ z. le-ltb k bound (omega arith))
+
+pub stands-told : (g bound p i up m t : ℕ) (r : Option ℕ) → m ≡ bound + p - i → t ≡ min (p + up) m → r ≡ newest_bit g p t
+    → is_some r ≡ stands_in g bound p i up
+stands-told g bound p i up m t (Some q) em et e = stands_at g bound p i up m t (Some q) q em et e refl
+stands-told g bound p i up m t None em et e = stands-none g bound p i up m t None em et e refl
 
 -- A working area from an index up.
 module _ (w : Written) (l i end z g : ℕ) (a : Asks w l i × (end ≤ w.frames)) (ez : z ≡ frame_at w.frames w.omf i)
@@ -130,26 +135,29 @@ none_more w l from i end up r h e f eu k a b =
       | no c ↦ false-from i (i + up_of w.frames w.omf i end) (λ k. effective w k l) (sym e ∙ f) k (omega arith) (omega (arith, eu))
     ]
 
--- and the lines of a block, one after the other.
-abbrev pub NoneBefore : Written → (block n from end : ℕ) → Type 0
-NoneBefore w block n from end = (m : ℕ) → m < n → NoneIn w (block * 8 + m) from end
+pub line_none : (w : Written) (l from end i : ℕ) → NoneIn w l from i → end ≤ i → false ≡ any_from from end (λ k. effective w k l)
+line_none w l from end i h b = sym (from_false from end (λ k. effective w k l) (λ k a c. h k a (omega arith)))
 
-pub lines_more : (w : Written) (block n from end i : ℕ) → NoneBefore w block n from end → NoneIn w (block * 8 + n) from i → end ≤ i
-    → NoneBefore w block (n + 1) from end
-lines_more w block n from end i h g e m b k a c =
-    elim (ℕ_discrete m n) [ yes q ↦ ap (λ (z : ℕ). effective w k (block * 8 + z)) q ∙ g k a (omega arith) | no d ↦ h m (omega arith) k a c ]
+pub line-found : (w : Written) (l from end i : ℕ) (r : Bool) → from ≤ i → r ≡ run_has w l i end → r ≡ true
+    → true ≡ any_from from end (λ k. effective w k l)
+unfolding run_has up_of
+line-found w l from end i r c e h =
+    let found = true-from i (i + up_of w.frames w.omf i end) (λ k. effective w k l) (sym e ∙ h) in
+    sym (from-true from end found.0 (λ k. effective w k l) (omega (arith, found.1)) (omega (arith, found.2)) found.3)
 
-pub block_none : (w : Written) (block n from end : ℕ) → NoneBefore w block n from end → 8 ≤ n → false ≡ block_has w block from end
+-- The lines of a block, one after the other.
+pub line_more : (f : ℕ → Bool) (n : ℕ) (r : Bool) → ((m : ℕ) → m < n → f m ≡ false) → r ≡ f n → r ≡ false → (m : ℕ) → m < n + 1 → f m ≡ false
+line_more f n r h e g m b = elim (ℕ_discrete m n) [ yes q ↦ ap f q ∙ (sym e ∙ g) | no d ↦ h m (omega arith) ]
+
+pub block_none : (w : Written) (block n from end : ℕ) → ((m : ℕ) → m < n → any_from from end (λ i. effective w i (block * 8 + m)) ≡ false) → 8 ≤ n
+    → false ≡ block_has w block from end
 unfolding block_has
-block_none w block n from end h b =
-    sym (any_none 8 _ (λ m c. from_false from end (λ i. effective w i (block * 8 + m)) (h m (omega arith))))
+block_none w block n from end h b = sym (any_none 8 _ (λ m c. h m (omega arith)))
 
-pub block-found : (w : Written) (block n from end i : ℕ) (r : Bool) → n < 8 → from ≤ i → r ≡ run_has w (block * 8 + n) i end → r ≡ true
+pub block-found : (w : Written) (block n from end : ℕ) (r : Bool) → n < 8 → r ≡ any_from from end (λ i. effective w i (block * 8 + n)) → r ≡ true
     → true ≡ block_has w block from end
-unfolding block_has run_has up_of
-block-found w block n from end i r b c e h =
-    let found = true-from i (i + up_of w.frames w.omf i end) (λ k. effective w k (block * 8 + n)) (sym e ∙ h) in
-    sym (any-true 8 _ n b (from-true from end found.0 (λ k. effective w k (block * 8 + n)) (omega (arith, found.1)) (omega (arith, found.2)) found.3))
+unfolding block_has
+block-found w block n from end r b e h = sym (any-true 8 _ n b (sym e ∙ h))
 
 -- The window of one frame,
 pub one-frame : (w : Written) (block i j : ℕ) (r : Bool) → i ≡ j → r ≡ block_has w block i (i + 1) → r ≡ needs (effective w j) block

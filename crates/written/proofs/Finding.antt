@@ -1,4 +1,6 @@
 -- A search by index from OMF finds what Figure 2's search by marks back does. Assumes nothing.
+use Rattle.std.specs.Prelude as std
+use Rattle.std.specs.Prelude.{Some, None}
 use mathlib.Core.Path.{◌≡◌, refl, ◌∙◌, ap, ap₂, fun_ext}
 use mathlib.Core.Bool.{Bool, true, false, cond}
 use mathlib.Core.Option.{Option, none, some, get_or}
@@ -10,32 +12,30 @@ use Rattle.rules.specs.Call.Place.{in_frame, in_archive}
 use Rattle.rules.specs.Seen.{further}
 use Rattle.rules.specs.Figure2.{version_in, found_in}
 use Rattle.numbers.specs.Search.{greatest}
-use Rattle.numbers.specs.declared.Found.{Found}
-use Rattle.numbers.specs.declared.Found.TheVariants.{At, Nothing}
 use Rattle.numbers.proofs.Search.{greatest-found}
 
 -- what a search among n live frames finds, as an origin and as a version
-unfoldable pub back_of : ℕ → Found → Place
-back_of n (At i) = in_frame (n - 1 - i)
-back_of n Nothing = in_archive
+unfoldable pub back_of : ℕ → std.Option ℕ → Place
+back_of n (Some i) = in_frame (n - 1 - i)
+back_of n None = in_archive
 
-unfoldable pub version_of : (ℕ → Line) → Line → Found → Line
-version_of at other (At i) = at i
-version_of at other Nothing = other
+unfoldable pub version_of : (ℕ → Line) → Line → std.Option ℕ → Line
+version_of at other (Some i) = at i
+version_of at other None = other
 
-further-back : (n : ℕ) (r : Found) → ((i : ℕ) → r ≡ At i → i < n) → further (back_of n r) ≡ back_of (suc n) r
+further-back : (n : ℕ) (r : std.Option ℕ) → ((i : ℕ) → r ≡ Some i → i < n) → further (back_of n r) ≡ back_of (suc n) r
 unfolding further back_of
-further-back n (At i) h =
+further-back n (Some i) h =
     let b = h i refl in
     let e : suc (n - 1 - i) ≡ suc n - 1 - i = omega arith in
     ap in_frame e
-further-back n Nothing h = refl
+further-back n None h = refl
 
-start : in_archive ≡ back_of zero Nothing
+start : in_archive ≡ back_of zero None
 unfolding back_of
 start = refl
 
-here : (n : ℕ) → in_frame 0 ≡ back_of (suc n) (At n)
+here : (n : ℕ) → in_frame 0 ≡ back_of (suc n) (Some n)
 unfolding back_of
 here n =
     let e : 0 ≡ suc n - 1 - n = omega arith in
@@ -57,15 +57,15 @@ found_back (suc n) f =
         down : (n j : ℕ) → suc n - 1 - suc j ≡ n - 1 - j
         down n j = omega arith
 
-    go : (b : Bool) → cond b (in_frame 0) (further (back_of n (greatest n f))) ≡ back_of (suc n) (cond b (At n) (greatest n f))
+    go : (b : Bool) → cond b (in_frame 0) (further (back_of n (greatest n f))) ≡ back_of (suc n) (cond b (Some n) (greatest n f))
     go true = here n
     go false = further-back n (greatest n f) (λ i e. (greatest-found n f i e).below)
 
-nothing : (at : ℕ → Line) (other : Line) → other ≡ version_of at other Nothing
+nothing : (at : ℕ → Line) (other : Line) → other ≡ version_of at other None
 unfolding version_of
 nothing at other = refl
 
-own : (at : ℕ → Line) (other : Line) (i : ℕ) → at i ≡ version_of at other (At i)
+own : (at : ℕ → Line) (other : Line) (i : ℕ) → at i ≡ version_of at other (Some i)
 unfolding version_of
 own at other i = refl
 
@@ -88,6 +88,6 @@ version-back (suc n) f at other =
         down : (n j : ℕ) → suc n - 1 - suc j ≡ n - 1 - j
         down n j = omega arith
 
-    go : (b : Bool) → get_or (cond b (some (at n)) none) (version_of at other (greatest n f)) ≡ version_of at other (cond b (At n) (greatest n f))
+    go : (b : Bool) → get_or (cond b (some (at n)) none) (version_of at other (greatest n f)) ≡ version_of at other (cond b (Some n) (greatest n f))
     go true = own at other n
     go false = refl

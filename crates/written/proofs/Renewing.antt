@@ -8,7 +8,7 @@ use native.Mathlib.Nat.{add-mul, one-mul, mul_assoc, mul_comm, div-add-mod'}
 use native.Mathlib.Decide.{ℕ_discrete}
 use native.Mathlib.Omega.{arith}
 use borrow.Author.Tests.{eqb-true, eq-eqb, ne_eqb}
-use lib.ListN.{length, get_or}
+use lib.ListN.{get_or}
 use lib.Pow.{pow-add, shr-shr, mod-mod-pow}
 use lib.Seq.{set-get_or}
 use Rattle.rules.proofs.Tests.{both_true}
@@ -16,9 +16,8 @@ use Rattle.frames.specs.Circle.{index_of, frame_at}
 use Rattle.frames.proofs.Circle.{index_below, frame-index}
 use Rattle.numbers.specs.Digits.{digit, bit, range_of, set_at}
 use Rattle.numbers.proofs.Digits.{digit-below}
-use Rattle.written.specs.Bits.{Written, Asks, Near, place_of, bound_of, standing, effective, first_index, before_wrap, after_wrap, cut_of, window_of}
+use Rattle.written.specs.Bits.{Written, Asks, place_of, bound_of, standing, effective, first_index, before_wrap, after_wrap, cut_of, window_of}
 use Rattle.written.specs.Steps.{regrouped, with_written, renewed}
-use Rattle.written.proofs.Areas.{asks-near}
 use Rattle.written.proofs.Setting.{set_told}
 use Rattle.written.proofs.Unsetting.{bit_is}
 
@@ -33,10 +32,6 @@ module _ (w : Written) (l f tag : ℕ) (a : Asks w l f × (tag < 256)) where
     },
     a.1,
   )
-
-  pub renew-near : Near w.lines (f / 16) l × (place_of w.lines (f / 16) l < length w.groups)
-  renew-near =
-      asks-near w l (index_of w.frames w.omf f) f (renew-asks _ refl).0 (sym (frame-index w.frames w.omf a.0.lent.omf_below f a.0.index_below))
 
 -- The two ends, in the form in which the code has the group and the test.
 module _ (w : Written) (l f tag g : ℕ) (at-group : g ≡ get_or w.groups (place_of w.lines (f / 16) l) 0) where

@@ -1,4 +1,5 @@
 -- Searching written bits: a run of one group, a working area, and area after area down from a start. Assumes nothing.
+use Rattle.std.specs.Prelude.{Option, Some, None}
 use mathlib.Core.Path.{◌≡◌, refl, sym, ◌∙◌, ap, ap₂}
 use mathlib.Core.Bool.{Bool, true, false, ◌&&◌}
 use Prim.Native.Nat.{ℕ, ◌+◌, ◌-◌, ◌/◌, ◌%◌, ◌≤◌, ◌<◌, min}
@@ -11,8 +12,6 @@ use Rattle.rules.proofs.Tests.{both_true}
 use Rattle.frames.specs.Circle.{frame_at}
 use Rattle.numbers.specs.Digits.{bit, newest_bit}
 use Rattle.numbers.specs.Search.{greatest}
-use Rattle.numbers.specs.declared.Found.{Found}
-use Rattle.numbers.specs.declared.Found.TheVariants.{At, Nothing}
 use Rattle.numbers.proofs.Digits.{bit-none, digit-below, digit-past}
 use Rattle.numbers.proofs.Search.{greatest-none, greatest-at, greatest-same, greatest-nothing, Greatest, greatest-found, greatest-part-at, greatest-part-none}
 use Rattle.written.specs.Bits.{Written, Asks, place_of, bound_of, standing, effective, newest_run, newest_in_area, newest_from, down_of}
@@ -41,16 +40,16 @@ lt-min x a b h k = omega arith
 run-low : (p i j l : ℕ) → l ≡ min p i → i - min p i ≤ j → p - l ≤ j + p - i
 run-low p i j l e a = omega arith
 
-run-top : (bound p i j m t : ℕ) → m ≡ bound + p - i → t ≡ min (p + 1) m → i - min p i ≤ j → j < i + 1 → j < bound → j + p - i < t
+run-top : (bound p i j m t : ℕ) → m ≡ bound + p - i → t ≡ min m (p + 1) → i - min p i ≤ j → j < i + 1 → j < bound → j + p - i < t
 run-top bound p i j m t em et a b c =
     let reach : i ≤ j + p = omega arith in
     let d : j + p - i < m = omega (arith, reach) in
     let e : j + p - i < p + 1 = omega (arith, reach) in
-    rw et (lt-min (j + p - i) (p + 1) m e d)
+    rw et (lt-min (j + p - i) m (p + 1) d e)
 
 -- One group, from position p with index i down: the digits below the bound, as far as the run goes.
-module _ (g bound p i l m t : ℕ) (el : l ≡ min p i) (em : m ≡ bound + p - i) (et : t ≡ min (p + 1) m) where
-  pub run_none : newest_bit g (p - l) t ≡ Nothing → newest_run g bound p i ≡ Nothing
+module _ (g bound p i l m t : ℕ) (el : l ≡ min p i) (em : m ≡ bound + p - i) (et : t ≡ min m (p + 1)) where
+  pub run_none : newest_bit g (p - l) t ≡ None → newest_run g bound p i ≡ None
   unfolding newest_bit newest_run standing
   run_none e =
       greatest-none (i + 1) (λ k. leb (i - min p i) k && standing g (k + p - i) k bound)
@@ -69,14 +68,14 @@ module _ (g bound p i l m t : ℕ) (el : l ≡ min p i) (em : m ≡ bound + p - 
     pub high : q ≤ p
     pub bound_above : i + q < bound + p
 
-  pub run-within : (q : ℕ) → newest_bit g (p - l) t ≡ At q → Within q
+  pub run-within : (q : ℕ) → newest_bit g (p - l) t ≡ Some q → Within q
   unfolding newest_bit
   run-within q e =
       let h = greatest-found t (λ q. leb (p - l) q && bit g q) q e in
       let a = leb-true (p - l) q (both_true (leb (p - l) q) (bit g q) h.passes).0 in
       record { low = omega arith; high = omega (arith, h.below); bound_above = omega (arith, h.below) }
 
-  pub run_at : (q : ℕ) → newest_bit g (p - l) t ≡ At q → newest_run g bound p i ≡ At (i + q - p)
+  pub run_at : (q : ℕ) → newest_bit g (p - l) t ≡ Some q → newest_run g bound p i ≡ Some (i + q - p)
   unfolding newest_bit newest_run standing
   run_at q e =
       let h = greatest-found t (λ q. leb (p - l) q && bit g q) q e in
@@ -98,16 +97,16 @@ module _ (g bound p i l m t : ℕ) (el : l ≡ min p i) (em : m ≡ bound + p - 
       stands j b c a (no d) h w = none_of (bit g (j + p - i)) (ltb j bound) (λ z. le-ltb j bound (omega arith))
 
 -- The same in the form in which the code has it.
-module _ (g bound p i l m t : ℕ) (r : Found) where
-  pub run-told-at : (q : ℕ) → l ≡ min p i → m ≡ bound + p - i → t ≡ min (p + 1) m → r ≡ newest_bit g (p - l) t → r ≡ At q
-      → At (i + q - p) ≡ newest_run g bound p i
+module _ (g bound p i l m t : ℕ) (r : Option ℕ) where
+  pub run-told-at : (q : ℕ) → l ≡ min p i → m ≡ bound + p - i → t ≡ min m (p + 1) → r ≡ newest_bit g (p - l) t → r ≡ Some q
+      → Some (i + q - p) ≡ newest_run g bound p i
   run-told-at q el em et e h = sym (run_at g bound p i l m t el em et q (sym e ∙ h))
 
-  pub run-told-none : l ≡ min p i → m ≡ bound + p - i → t ≡ min (p + 1) m → r ≡ newest_bit g (p - l) t → r ≡ Nothing
-      → Nothing ≡ newest_run g bound p i
+  pub run-told-none : l ≡ min p i → m ≡ bound + p - i → t ≡ min m (p + 1) → r ≡ newest_bit g (p - l) t → r ≡ None
+      → None ≡ newest_run g bound p i
   run-told-none el em et e h = sym (run_none g bound p i l m t el em et (sym e ∙ h))
 
-  pub run-told-within : (q : ℕ) → l ≡ min p i → m ≡ bound + p - i → t ≡ min (p + 1) m → r ≡ newest_bit g (p - l) t → r ≡ At q
+  pub run-told-within : (q : ℕ) → l ≡ min p i → m ≡ bound + p - i → t ≡ min m (p + 1) → r ≡ newest_bit g (p - l) t → r ≡ Some q
       → (p ≤ i + q) × (q ≤ p)
   run-told-within q el em et e h =
       let w = run-within g bound p i l m t el em et q (sym e ∙ h) in
@@ -130,7 +129,7 @@ module _ (w : Written) (l i : ℕ) (a : Asks w l i) where
       in
       ap₂ (λ (x p : ℕ). standing x p k (bound_of w.history x)) group place
 
-  pub area-is : (z g b : ℕ) (r : Found) → z ≡ frame_at w.frames w.omf i → g ≡ get_or w.groups (place_of w.lines (z / 16) l) 0
+  pub area-is : (z g b : ℕ) (r : Option ℕ) → z ≡ frame_at w.frames w.omf i → g ≡ get_or w.groups (place_of w.lines (z / 16) l) 0
       → (b ≡ bound_of w.history g) × (b < 65536) → r ≡ newest_run g b (z % 16) i → r ≡ newest_in_area w l i
   unfolding newest_run newest_in_area down_of
   area-is z g b r ez eg eb er =
@@ -147,7 +146,7 @@ module _ (w : Written) (l i : ℕ) (a : Asks w l i) where
           ∙ sym (ap (λ (t : Bool). t && effective w k l) (lt-leb (i - min (f % 16) i) k (omega arith)))
 
   pub area-none : (z g : ℕ) → z ≡ frame_at w.frames w.omf i → g ≡ get_or w.groups (place_of w.lines (z / 16) l) 0 → g % 65536 ≡ 0
-      → Nothing ≡ newest_in_area w l i
+      → None ≡ newest_in_area w l i
   unfolding newest_in_area down_of
   area-none z g ez eg e =
       sym (greatest-none (i + 1) _ (λ k c. none_of (leb (i - min (f % 16) i) k) _ (λ d. none k c (leb-true (i - min (f % 16) i) k d))))
@@ -159,25 +158,25 @@ module _ (w : Written) (l i : ℕ) (a : Asks w l i) where
 
 -- Area after area, down from a start: what is found in an area is found from the start, and what is not is found further down.
 module _ (w : Written) (l start i : ℕ) (now : newest_from w l start ≡ newest_from w l i) where
-  pub from_at : (r : Found) (j : ℕ) → r ≡ newest_in_area w l i → r ≡ At j → At j ≡ newest_from w l start
+  pub from_at : (r : Option ℕ) (j : ℕ) → r ≡ newest_in_area w l i → r ≡ Some j → Some j ≡ newest_from w l start
   unfolding newest_from newest_in_area
   from_at r j e h =
       sym (now ∙ greatest-part-at (i - down_of w.frames w.omf i) (i + 1) (λ k. effective w k l) j (sym e ∙ h))
 
-  from-below : (r : Found) → r ≡ newest_in_area w l i → r ≡ Nothing
+  from-below : (r : Option ℕ) → r ≡ newest_in_area w l i → r ≡ None
       → newest_from w l start ≡ greatest (i - down_of w.frames w.omf i) (λ k. effective w k l)
   unfolding newest_from newest_in_area
   from-below r e h =
       now ∙ greatest-part-none (i - down_of w.frames w.omf i) (i + 1) (λ k. effective w k l) (omega arith) (sym e ∙ h)
 
-  pub from-none : (r : Found) (down : ℕ) → r ≡ newest_in_area w l i → r ≡ Nothing → down ≡ down_of w.frames w.omf i → i ≤ down
-      → Nothing ≡ newest_from w l start
+  pub from-none : (r : Option ℕ) (down : ℕ) → r ≡ newest_in_area w l i → r ≡ None → down ≡ down_of w.frames w.omf i → i ≤ down
+      → None ≡ newest_from w l start
   unfolding greatest
   from-none r down e h d b =
       let z : i - down_of w.frames w.omf i ≡ 0 = omega arith in
       sym (from-below r e h ∙ ap (λ (n : ℕ). greatest n (λ k. effective w k l)) z)
 
-  pub from-again : (r : Found) (down : ℕ) → r ≡ newest_in_area w l i → r ≡ Nothing → down ≡ down_of w.frames w.omf i → down < i
+  pub from-again : (r : Option ℕ) (down : ℕ) → r ≡ newest_in_area w l i → r ≡ None → down ≡ down_of w.frames w.omf i → down < i
       → newest_from w l start ≡ newest_from w l (i - down - 1)
   unfolding newest_from
   from-again r down e h d b =

@@ -4,16 +4,14 @@ use mathlib.Core.Bool.{Bool, cond}
 use mathlib.Core.List.{List}
 use Prim.Native.Nat.{ℕ, ◌+◌, ◌*◌, ◌/◌, ◌-◌, ◌≤◌, ◌<◌, min}
 use native.Mathlib.Nat.{add-zero, mul-le-mul, mul-le-mul_right, suc-mul, zero-mul}
-use native.Mathlib.Decide.{dec_lt}
 use native.Mathlib.Numerals.{add-one}
 use native.Mathlib.Omega.{arith}
 use borrow.Author.Tests.{eq-eqb, ne_eqb, lt-ltb, le-ltb}
 use lib.Arith.{digits_div}
 use lib.Bits.{bit_and}
-use lib.ListN.{length, get_or, set, length-set}
-use lib.Seq.{get_or-set_same, get_or-set_other}
+use lib.ListN.{length, get_or, set}
 use Rattle.lists.specs.Lists.{rewrite, rewrite_from}
-use Rattle.written.specs.Bits.{Written, written_of, AsksWritten, Near, place_of, tag_of, bound_of, first_index, cut_of, window_of}
+use Rattle.written.specs.Bits.{Written, written_of, AsksWritten, place_of, tag_of, bound_of, first_index, cut_of, window_of}
 use Rattle.written.specs.Steps.{masked_of, Masks, Entered, swept, lower_bound, next_tag, RolledBack}
 use Rattle.lists.proofs.Lists.{Rewritten, rewrite-start, rewrite-end, rewrite-behind}
 use Rattle.written.proofs.Windows.{cut-and}
@@ -22,33 +20,12 @@ use Rattle.written.proofs.Windows.{cut-and}
 pub count-few : (lines frames : ℕ) → lines ≤ 4096 → frames ≤ 4096 → frames / 16 * lines ≤ 1048576
 count-few lines frames a b = mul-le-mul {n₁ = frames / 16} {m₁ = lines} {n₂ = 256} {m₂ = 4096} (omega arith) a
 
--- The masks of the first n tags, as the loop has them, at its start, at each turn and at its end.
+-- The masks of the first n tags, as the loop has them.
 module _ (s u : ℕ) (history : List ℕ) where
   pub record MasksTo (n : ℕ) (masks : List ℕ) : Type 0 where
     pub few : n ≤ 256
     pub long : length masks ≡ 256
     pub done : (t : ℕ) → t < n → get_or masks t 0 ≡ cut_of 65535 s u 0 (get_or history t 0)
-
-  pub masks-start : (masks : List ℕ) → length masks ≡ 256 → MasksTo 0 masks
-  masks-start masks long = record { few = omega arith; long = long; done = λ t b. absurd (omega arith) }
-
-  pub masks-next : (n : ℕ) (masks : List ℕ) (bound r : ℕ) → MasksTo n masks → n < 256 → bound ≡ get_or history n 0 → (r ≡ cut_of 65535 s u 0 bound) × (r < 65536)
-      → MasksTo (n + 1) (set masks n r)
-  masks-next n masks bound r h b eb er =
-      record {
-        few = omega arith;
-        long = length-set masks n r ∙ h.long;
-        done = λ t c. at t c (dec_lt t n);
-      }
-    where
-      at : (t : ℕ) → t < n + 1 → Dec (t < n) → get_or (set masks n r) t 0 ≡ cut_of 65535 s u 0 (get_or history t 0)
-      at t c (yes d) = get_or-set_other masks n t r 0 (λ e. omega (arith, d, e)) ∙ h.done t d
-      at t c (no d) =
-          let e : t ≡ n = omega (arith, c, d) in
-          rw e (get_or-set_same masks n r 0 (omega (arith, b, h.long)) ∙ (er.0 ∙ ap (cut_of 65535 s u 0) eb))
-
-  pub masks-end : (n : ℕ) (masks : List ℕ) → MasksTo n masks → 256 ≤ n → Masks s u history masks
-  masks-end n masks h b t c = h.done t (omega (arith, b, c))
 
 -- What the sweep of an area stores for a group.
 pub masked-told : (frames omf area s u : ℕ) (history masks : List ℕ) → (s ≡ first_index frames omf area) × (s < frames) → u ≡ min 16 (frames - s)
@@ -61,12 +38,8 @@ masked-told frames omf area s u history masks es eu h g =
     cc
 
 -- The groups of a working area lie in the lent list,
-pub area-near : (w : Written) (area line now : ℕ) → AsksWritten w → area < w.frames / 16 → now ≡ length w.groups → line < w.lines
-    → Near w.lines area line × (place_of w.lines area line < now)
-area-near w area line now a b e c = (
-  record { lines_few = a.lines_few; area_few = omega (arith, a.frames_few); line_few = omega (arith, a.lines_few) },
-  omega (arith, a.groups_long, mul-le-mul_right w.lines b, suc-mul area w.lines),
-)
+pub area-within : (w : Written) (area : ℕ) → AsksWritten w → area < w.frames / 16 → place_of w.lines area 0 + w.lines ≤ length w.groups
+area-within w area a b = omega (arith, a.groups_long, mul-le-mul_right w.lines b, suc-mul area w.lines)
 
 -- and a list that is rewritten area by area has these groups rewritten one turn later.
 pub area-more : (lines area : ℕ) (h : ℕ → ℕ → ℕ) (xs now after : List ℕ) → Rewritten (area * lines) (λ at g. h (at / lines) g) xs now
@@ -93,12 +66,6 @@ lower-open k e h = sym (ap (λ (t : Bool). cond t e (e - k)) (eq-eqb e 65535 h))
 pub lower-else : (k e : ℕ) → (e ≡ 65535 → ⊥) → lower_bound k e ≡ e - k
 unfolding lower_bound
 lower-else k e h = ap (λ (t : Bool). cond t e (e - k)) (ne_eqb e 65535 h)
-
-pub lower-gone : (k e : ℕ) → (e ≡ 65535 → ⊥) → e < k → 0 ≡ lower_bound k e
-lower-gone k e h b = omega (arith, lower-else k e h)
-
-pub lower-some : (k e : ℕ) → (e ≡ 65535 → ⊥) → k ≤ e → e - k ≡ lower_bound k e
-lower-some k e h b = sym (lower-else k e h)
 
 -- the two ends of a rollback
 module _ (w : Written) (tag kept : ℕ) (entry : List ℕ) (h : Entered tag kept w.history entry) where

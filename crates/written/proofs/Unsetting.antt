@@ -1,13 +1,12 @@
 -- A frame's bits cleared in neighbouring groups: other bits, tags and groups stay. Assumes nothing.
 use mathlib.Core.Path.{◌≡◌, sym, ◌∙◌, ap}
-use mathlib.Core.Bool.{Bool, true, false, not, ◌&&◌, false≢true}
+use mathlib.Core.Bool.{Bool, true, false, ◌&&◌, false≢true}
 use mathlib.Core.Logic.{◌≢◌, ◌⊎◌, inl, inr}
 use mathlib.Core.List.{List}
 use Prim.Native.Nat.{ℕ, ◌+◌, ◌*◌, ◌/◌, ◌%◌, ◌≤◌, ◌<◌}
 use native.Mathlib.Nat.{mul-le-mul, le_refl, suc-mul}
 use native.Mathlib.Decide.{ℕ_discrete, dec_lt}
 use native.Mathlib.Omega.{arith}
-use borrow.Author.Tests.{not-true, not-false}
 use lib.Dec.{ltb}
 use lib.ListN.{length, get_or, drop}
 use Rattle.lists.specs.Lists.{rewrite_from}
@@ -53,13 +52,13 @@ module _ (w : Written) (l i f g : ℕ) (at-frame : f ≡ frame_at w.frames w.omf
       sym ((λ j. standing (at-group j) (f % 16) i (bound_of w.history (at-group j)))
       ∙ ap (λ (z : ℕ). standing (get_or w.groups (place_of w.lines (z / 16) l) 0) (z % 16) i (bound_of w.history (get_or w.groups (place_of w.lines (z / 16) l) 0))) at-frame)
 
-  pub has-not : (b : Bool) → b ≡ bit g (f % 16) → not b ≡ true → false ≡ effective w i l
+  pub has-not : (b : Bool) → b ≡ bit g (f % 16) → b ≡ false → b ≡ effective w i l
   unfolding standing
-  has-not b e n = sym (bit_is ∙ ap (λ (t : Bool). t && ltb i (bound_of w.history g)) (sym e ∙ not-true b n))
+  has-not b e n = n ∙ sym (bit_is ∙ ap (λ (t : Bool). t && ltb i (bound_of w.history g)) (sym e ∙ n))
 
-  pub has-told : (b : Bool) (bound : ℕ) → b ≡ bit g (f % 16) → not b ≡ false → bound ≡ bound_of w.history g → ltb i bound ≡ effective w i l
+  pub has-told : (b : Bool) (bound : ℕ) → b ≡ bit g (f % 16) → b ≡ true → bound ≡ bound_of w.history g → ltb i bound ≡ effective w i l
   unfolding standing
-  has-told b bound e n h = sym (bit_is ∙ (ap (λ (t : Bool). t && ltb i (bound_of w.history g)) (sym e ∙ not-false b n) ∙ ap (ltb i) (sym h)))
+  has-told b bound e n h = sym (bit_is ∙ (ap (λ (t : Bool). t && ltb i (bound_of w.history g)) (sym e ∙ n) ∙ ap (ltb i) (sym h)))
 
 -- A frame's bits in a block's lines: no other bit and no tag changes.
 pub record BlockCleared (lines f block : ℕ) (groups after : List ℕ) : Type 0 where

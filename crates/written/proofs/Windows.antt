@@ -172,15 +172,6 @@ module _ (n omf area g from end : ℕ) where
             bit-none (window_of n omf area g from end) q (window-out (inl (omega arith)))
             ∙ sym (drop _ (ap (λ (y : Bool). y && ltb (index_of n omf (area * 16 + q)) end) (lt-leb from _ (omega arith))))
 
--- What the code has of each part is its definition.
-pub before-told : (g s u from end a lo b hi r : ℕ) → a ≡ from - s → lo ≡ min u a → b ≡ end - s → hi ≡ min u b → r ≡ range_of g lo hi → r ≡ before_wrap g s u from end
-unfolding before_wrap
-before-told g s u from end a lo b hi r ea el eb eh e = cc
-
-pub after-told : (g u from end lo hi r : ℕ) → lo ≡ min 16 (from + u) → hi ≡ min 16 (end + u) → r ≡ range_of g lo hi → r ≡ after_wrap g u from end
-unfolding after_wrap
-after-told g u from end lo hi r el eh e = cc
-
 -- A window in the form in which the code has its parts.
 module _ (g s u from end : ℕ) where
   pub cut-told : (a b : ℕ) → u ≤ 16 → a ≡ before_wrap g s u from end → b ≡ after_wrap g u from end

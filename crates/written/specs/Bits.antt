@@ -1,10 +1,9 @@
 -- Written bits in groups of sixteen with their tag, and the rollback history that masks them. Quotations are of document 01.
-use Rattle.std.specs.Prelude.{ℕ, zero, suc, ◌+◌, ◌-◌, ◌*◌, ◌/◌, ◌%◌, ◌≤◌, ◌<◌, min, ◌≡◌, Bool, ◌&&◌, List, leb, ltb, length, get_or}
+use Rattle.std.specs.Prelude.{ℕ, zero, suc, ◌+◌, ◌-◌, ◌*◌, ◌/◌, ◌%◌, ◌≤◌, ◌<◌, min, ◌≡◌, Bool, ◌&&◌, List, leb, ltb, length, get_or, Option}
 use Rattle.rules.specs.Seen.{any}
 use Rattle.frames.specs.Circle.{index_of, frame_at}
 use Rattle.numbers.specs.Digits.{digit, bit, range_of}
 use Rattle.numbers.specs.Search.{greatest}
-use Rattle.numbers.specs.declared.Found.{Found}
 use Rattle.written.specs.declared.Shape.{Shape}
 
 -- The lent lists with what places them: the lines, the circle of frames and OMF.
@@ -49,7 +48,7 @@ effective w i l =
     standing g (f % 16) i (bound_of w.history g)
 
 -- The newest index up to start at which the line has an effective bit.
-unfoldable pub newest_from : Written → (line start : ℕ) → Found
+unfoldable pub newest_from : Written → (line start : ℕ) → Option ℕ
 newest_from w l start = greatest (start + 1) (λ i. effective w i l)
 
 -- How far down from an index its working area goes on: to the area's first frame, or to OMF.
@@ -57,11 +56,11 @@ unfoldable pub down_of : (frames omf index : ℕ) → ℕ
 down_of frames omf i = min (frame_at frames omf i % 16) i
 
 -- The newest standing bit of a group from a position down, where the position's index is known.
-unfoldable pub newest_run : (g bound position index : ℕ) → Found
+unfoldable pub newest_run : (g bound position index : ℕ) → Option ℕ
 newest_run g bound p i = greatest (i + 1) (λ k. leb (i - min p i) k && standing g (k + p - i) k bound)
 
 -- The newest index of an index's area, up to it, at which the line has an effective bit.
-unfoldable pub newest_in_area : Written → (line index : ℕ) → Found
+unfoldable pub newest_in_area : Written → (line index : ℕ) → Option ℕ
 newest_in_area w l i = greatest (i + 1) (λ k. leb (i - down_of w.frames w.omf i) k && effective w k l)
 
 -- How far up from an index its working area goes on: to the area's last frame, or to the end of a window.

@@ -6,10 +6,8 @@ ghost use Rattle.std.specs.Prelude.{◌≡◌, ◌+◌, ◌*◌, ◌/◌, ◌≤
 ghost use Rattle.std.proofs.Math.ListN;
 ghost use Rattle.rules.specs.Seen.{needs};
 ghost use Rattle.frames.specs.Circle.{Turn, index_of};
-ghost use Rattle.written.specs.Bits.{written_at, AsksWritten, Asks, AsksBlock, AsksSet, Near, place_of, bound_of, effective, newest_from, newest_run, newest_in_area, down_of, up_of, stands_in, run_has, block_has, set_in, first_index, before_wrap, after_wrap, cut_of, window_of};
+ghost use Rattle.written.specs.Bits.{written_at, AsksWritten, Asks, AsksBlock, AsksSet, Near, place_of, bound_of, effective, newest_from, newest_run, newest_in_area, down_of, up_of, stands_in, any_from, run_has, block_has, set_in, first_index, before_wrap, after_wrap, cut_of, window_of};
 ghost use Rattle.written.specs.Steps.{AsksWindow, AsksReset, regrouped, with_written, renewed, Entered, settled, compared, Masks, swept_area, swept, unset_in, cleared_block, lower_bound, lowered, RolledBack, blanked};
-
-use numbers::Found;
 
 // What places the lent lists: L, the circle of frames and OMF.
 #[derive(Clone, Copy)]
@@ -51,7 +49,7 @@ fn bound_of(history: &[u16], group: u32) -> u32
     ensures { (result ≡ bound_of history.now group) × (result < 65536) }
 {
     let tag = (group / 65536 % 256) as usize;
-    numbers::widen_u16(history[tag])
+    u32::from(history[tag])
 }
 
 // How far down from an index its working area goes on.
@@ -59,32 +57,36 @@ fn run_down(shape: Shape, index: u32) -> u32
     requires { Turn shape.frames shape.omf index }
     ensures { result ≡ down_of shape.frames shape.omf index }
 {
-    numbers::min(frames::frame_at(shape.frames, shape.omf, index) % 16, index)
+    (frames::frame_at(shape.frames, shape.omf, index) % 16).min(index)
 }
 
 // The newest standing bit of a group from a position down.
-fn newest_run(group: u32, bound: u32, place: u32, index: u32) -> Found
+fn newest_run(group: u32, bound: u32, place: u32, index: u32) -> Option<u32>
     requires { (bound < 65536) × (place < 16) × (index < 65536) }
     ensures { result ≡ newest_run group bound place index }
 {
-    let low = place - numbers::min(place, index);
-    let top = numbers::min(place + 1, numbers::saturating_sub(bound + place, index));
-    match numbers::newest_bit(group, low, top) {
-        Found::At(q) => Found::At(index + q - place),
-        Found::Nothing => Found::Nothing,
-    }
+    let low = place - place.min(index);
+    let top = (bound + place).saturating_sub(index).min(place + 1);
+    let q = numbers::newest_bit(group, low, top)?;
+    Some(index + q - place)
 }
 
 // The newest effective bit of a line in the working area of an index, up to that index. The history is looked at only for a group with
 // bits.
-fn newest_in_area(groups: &[u32], history: &[u16], shape: Shape, line: u32, index: u32) -> Found
+fn newest_in_area(
+    groups: &[u32],
+    history: &[u16],
+    shape: Shape,
+    line: u32,
+    index: u32,
+) -> Option<u32>
     requires { Asks (written_at shape groups.now history.now) line index }
     ensures { result ≡ newest_in_area (written_at shape groups.now history.now) line index }
 {
     let frame = frames::frame_at(shape.frames, shape.omf, index);
     let group = group_at(groups, shape, frame / 16, line);
     if group % 65536 == 0 {
-        return Found::Nothing;
+        return None;
     }
     let bound = bound_of(history, group);
     newest_run(group, bound, frame % 16, index)
@@ -92,19 +94,19 @@ fn newest_in_area(groups: &[u32], history: &[u16], shape: Shape, line: u32, inde
 
 // The newest effective bit of a line from a start index down: one group read for each working area passed (an area in which OMF lies is
 // passed twice where the start lies behind OMF in it).
-pub fn search(groups: &[u32], history: &[u16], shape: Shape, line: u32, start: u32) -> Found
+pub fn search(groups: &[u32], history: &[u16], shape: Shape, line: u32, start: u32) -> Option<u32>
     requires { Asks (written_at shape groups.now history.now) line start }
     ensures { result ≡ newest_from (written_at shape groups.now history.now) line start }
 {
     let mut i = start;
+    // A loop: each turn goes down by what is left of a working area, which is no fixed step.
     loop {
-        match newest_in_area(groups, history, shape, line, i) {
-            Found::At(found) => return Found::At(found),
-            Found::Nothing => {}
+        if let Some(found) = newest_in_area(groups, history, shape, line, i) {
+            return Some(found);
         }
         let down = run_down(shape, i);
         if i <= down {
-            return Found::Nothing;
+            return None;
         }
         i = i - down - 1;
     }
@@ -115,10 +117,8 @@ fn run_up(shape: Shape, index: u32, end: u32) -> u32
     requires { Turn shape.frames shape.omf index }
     ensures { result ≡ up_of shape.frames shape.omf index end }
 {
-    numbers::min(
-        16 - frames::frame_at(shape.frames, shape.omf, index) % 16,
-        numbers::saturating_sub(end, index),
-    )
+    let left = 16 - frames::frame_at(shape.frames, shape.omf, index) % 16;
+    left.min(end.saturating_sub(index))
 }
 
 // Whether a group has a standing bit among so many from a position up.
@@ -126,11 +126,8 @@ fn stands_in(group: u32, bound: u32, place: u32, index: u32, up: u32) -> bool
     requires { (bound < 65536) × (place + up ≤ 16) × (index < 65536) }
     ensures { result ≡ stands_in group bound place index up }
 {
-    let top = numbers::min(place + up, numbers::saturating_sub(bound + place, index));
-    match numbers::newest_bit(group, place, top) {
-        Found::At(_) => true,
-        Found::Nothing => false,
-    }
+    let top = (place + up).min((bound + place).saturating_sub(index));
+    numbers::newest_bit(group, place, top).is_some()
 }
 
 // Whether a line has an effective bit in the working area of an index, from it up to the end of a window.
@@ -147,8 +144,24 @@ fn run_has(groups: &[u32], history: &[u16], shape: Shape, line: u32, index: u32,
     stands_in(group, bound, frame % 16, index, run_up(shape, index, end))
 }
 
-// Whether one of a block's eight lines has an effective bit in a window of indexes: left at the first such bit. Of each line one group
-// is read for each working area that the window touches.
+// Whether a line has an effective bit in a window of indexes: left at the first such bit. One group is read for each working area that the
+// window touches.
+fn line_has(groups: &[u32], history: &[u16], shape: Shape, line: u32, from: u32, end: u32) -> bool
+    requires { (AsksWritten (written_at shape groups.now history.now)) × (line < shape.lines) × (end ≤ shape.frames) }
+    ensures { result ≡ any_from from end (λ i. effective (written_at shape groups.now history.now) i line) }
+{
+    let mut i = from;
+    // A while: each turn goes up by what is left of a working area, which is no fixed step.
+    while i < end {
+        if run_has(groups, history, shape, line, i, end) {
+            return true;
+        }
+        i += run_up(shape, i, end);
+    }
+    false
+}
+
+// Whether one of a block's eight lines has an effective bit in a window of indexes: left at the first such bit.
 pub fn block_has(
     groups: &[u32],
     history: &[u16],
@@ -160,20 +173,12 @@ pub fn block_has(
     requires { AsksBlock (written_at shape groups.now history.now) block end }
     ensures { result ≡ block_has (written_at shape groups.now history.now) block from end }
 {
-    let mut found = false;
-    let mut n = 0;
-    'lines: while n < 8 {
-        let mut i = from;
-        while i < end {
-            if run_has(groups, history, shape, block * 8 + n, i, end) {
-                found = true;
-                break 'lines;
-            }
-            i = i + run_up(shape, i, end);
+    for n in 0..8 {
+        if line_has(groups, history, shape, block * 8 + n, from, end) {
+            return true;
         }
-        n = n + 1;
     }
-    found
+    false
 }
 
 // How many of a block's eight lines have their bit of a frame set, effective or stale: counted in one go, without a look at the history.
@@ -182,12 +187,10 @@ fn set_in(groups: &[u32], shape: Shape, frame: u32, block: u32) -> u32
     ensures { result ≡ set_in shape.lines groups.now frame block }
 {
     let here = numbers::power_of_two(frame % 16);
+    let first = place_of(shape, frame / 16, block * 8);
     let mut sum = 0;
-    let mut n = 0;
-    while n < 8 {
-        let group = group_at(groups, shape, frame / 16, block * 8 + n);
-        sum = sum + group / here % 2;
-        n = n + 1;
+    for group in &groups[first..first + 8] {
+        sum += *group / here % 2;
     }
     sum
 }
@@ -211,10 +214,7 @@ pub fn has(groups: &[u32], history: &[u16], shape: Shape, line: u32, index: u32)
 {
     let frame = frames::frame_at(shape.frames, shape.omf, index);
     let group = group_at(groups, shape, frame / 16, line);
-    if !numbers::is_set(group, frame % 16) {
-        return false;
-    }
-    index < bound_of(history, group)
+    numbers::is_set(group, frame % 16) && index < bound_of(history, group)
 }
 
 // A group without the bit of a frame.
@@ -229,12 +229,9 @@ pub fn clear_block(groups: &mut [u32], shape: Shape, frame: u32, block: u32)
     requires { AsksSet shape.lines frame block (length groups.old) }
     ensures { groups.new ≡ cleared_block shape.lines frame block groups.old }
 {
-    let mut n = 0;
-    while n < 8 {
-        let line = block * 8 + n;
-        let group = group_at(groups, shape, frame / 16, line);
-        put_group(groups, shape, frame / 16, line, unset(group, frame));
-        n = n + 1;
+    let first = place_of(shape, frame / 16, block * 8);
+    for group in &mut groups[first..first + 8] {
+        *group = unset(*group, frame);
     }
 }
 
@@ -243,8 +240,8 @@ fn before_wrap(group: u32, s: u32, u: u32, from: u32, end: u32) -> u32
     requires { u ≤ 16 }
     ensures { result ≡ before_wrap group s u from end }
 {
-    let lo = numbers::min(u, numbers::saturating_sub(from, s));
-    let hi = numbers::min(u, numbers::saturating_sub(end, s));
+    let lo = u.min(from.saturating_sub(s));
+    let hi = u.min(end.saturating_sub(s));
     numbers::range(group, lo, hi)
 }
 
@@ -252,7 +249,7 @@ fn after_wrap(group: u32, u: u32, from: u32, end: u32) -> u32
     requires { (u ≤ 16) × (from ≤ 65535) × (end ≤ 65535) }
     ensures { result ≡ after_wrap group u from end }
 {
-    numbers::range(group, numbers::min(16, from + u), numbers::min(16, end + u))
+    numbers::range(group, u32::min(16, from + u), u32::min(16, end + u))
 }
 
 // The bits of a group whose index from OMF lies in a window: the first u frames of its area have the indexes from s on, the others those
@@ -278,7 +275,7 @@ fn window(shape: Shape, group: u32, area: u32, from: u32, end: u32) -> u32
     ensures { result ≡ window_of shape.frames shape.omf area group from end }
 {
     let s = first_index(shape, area);
-    let u = numbers::min(16, shape.frames - s);
+    let u = u32::min(16, shape.frames - s);
     cut(group, s, u, from, end)
 }
 
@@ -326,14 +323,11 @@ fn enter(history: &mut [u16], tag: u32, kept: u16) -> usize
     ensures compared { result ≡ compared kept (tag + 1) history.old }
 {
     let used = tag as usize + 1;
-    let mut left = used;
-    while 0 < left {
-        let t = left - 1;
+    for t in (0..used).rev() {
         if history[t] <= kept {
             return used - t;
         }
         history[t] = kept;
-        left = t;
     }
     used
 }
@@ -344,11 +338,8 @@ fn masks_of(history: &[u16], s: u32, u: u32) -> [u32; 256]
     ensures { Masks s u history.now result }
 {
     let mut masks = [0u32; 256];
-    let mut t = 0;
-    while t < 256 {
-        let bound = numbers::widen_u16(history[t]);
-        masks[t] = cut(65535, s, u, 0, bound);
-        t = t + 1;
+    for t in 0..256 {
+        masks[t] = cut(65535, s, u, 0, u32::from(history[t]));
     }
     masks
 }
@@ -359,16 +350,14 @@ fn sweep_area(groups: &mut [u32], history: &[u16], shape: Shape, area: u32)
     requires { (AsksWritten (written_at shape groups.old history.now)) × (area < shape.frames / 16) }
     ensures { groups.new ≡ swept_area (written_at shape groups.old history.now) area }
 {
-    let lines = shape.lines;
     let s = first_index(shape, area);
-    let u = numbers::min(16, shape.frames - s);
+    let u = u32::min(16, shape.frames - s);
     let masks = masks_of(history, s, u);
-    let mut line = 0;
-    while line < lines {
-        let group = group_at(groups, shape, area, line);
-        let tag = (group / 65536 % 256) as usize;
-        put_group(groups, shape, area, line, group & masks[tag]);
-        line = line + 1;
+    let first = place_of(shape, area, 0);
+    let behind = first + shape.lines as usize;
+    for group in &mut groups[first..behind] {
+        let tag = (*group / 65536 % 256) as usize;
+        *group &= masks[tag];
     }
 }
 
@@ -377,11 +366,8 @@ fn sweep(groups: &mut [u32], history: &[u16], shape: Shape)
     requires { AsksWritten (written_at shape groups.old history.now) }
     ensures { groups.new ≡ swept (written_at shape groups.old history.now) }
 {
-    let areas = shape.frames / 16;
-    let mut area = 0;
-    while area < areas {
+    for area in 0..shape.frames / 16 {
         sweep_area(groups, history, shape, area);
-        area = area + 1;
     }
 }
 
@@ -409,7 +395,7 @@ fn lower_bound(bound: u16, k: u16) -> u16
     if bound == 65535 {
         return bound;
     }
-    if bound < k { 0 } else { bound - k }
+    bound.saturating_sub(k)
 }
 
 // Lowers the entries of the history with OMF: an advance that collects the k oldest frames.
@@ -417,10 +403,8 @@ pub fn lower(history: &mut [u16], k: u16)
     requires { 256 ≤ length history.old }
     ensures { history.new ≡ lowered k history.old }
 {
-    let mut t = 0;
-    while t < 256 {
-        history[t] = lower_bound(history[t], k);
-        t = t + 1;
+    for bound in &mut history[..256] {
+        *bound = lower_bound(*bound, k);
     }
 }
 
@@ -430,13 +414,7 @@ pub fn reset(groups: &mut [u32], history: &mut [u16], shape: Shape)
     ensures none { groups.new ≡ blanked shape.lines shape.frames groups.old }
     ensures open { history.new ≡ ListN.set history.old 0 65535 }
 {
-    let lines = shape.lines;
-    let frames = shape.frames;
-    let count = frames / 16 * lines;
-    let mut at = 0;
-    while at < count {
-        groups[at as usize] = 0;
-        at = at + 1;
-    }
+    let count = (shape.frames / 16 * shape.lines) as usize;
+    groups[..count].fill(0);
     history[0] = 65535;
 }

@@ -26,19 +26,19 @@ locate-requires c =
 pub page_line-requires : goal.page_line-requires
 page_line-requires c =
     let g = line-room _ _ _ _ (sym c.requires) refl in
-    (line-content _ _ _ g _ _ _ (rw c.shape-shape.ensures at c.locate.ensures)).page _ c.in-Page.is
+    (line-content _ _ _ g _ _ _ (rw c.shape-shape.ensures at c.locate.ensures)).page _ c.in-Some.is
 
 pub archive_line-requires : goal.archive_line-requires
 archive_line-requires c =
     let g = line-room _ _ _ _ (sym c.requires) refl in
     (line-content _ _ _ g _ _ _ (rw c.shape-shape.ensures at c.locate.ensures)).archived
 
-pub returns-in-Page : goal.returns-in-Page
-returns-in-Page c =
+pub returns-in-Some : goal.returns-in-Some
+returns-in-Some c =
     let is = c.shape-shape.ensures in
-    λ _. line-in-page _ _ _ _ refl (sym c.requires) refl _ c.live-live.ensures _ (rw is at c.search-found.ensures) _ (rw is at c.locate.ensures) _ _ c.in-Page.is c.page_line.ensures
+    λ _. line-in-page _ _ _ _ refl (sym c.requires) refl _ c.live-live.ensures _ (rw is at c.search-found.ensures) _ (rw is at c.locate.ensures) _ _ c.in-Some.is c.page_line.ensures
 
-pub returns-in-Archive : goal.returns-in-Archive
-returns-in-Archive c =
+pub returns-in-None : goal.returns-in-None
+returns-in-None c =
     let is = c.shape-shape.ensures in
-    λ _. line-in-archive _ _ _ _ refl (sym c.requires) refl _ c.live-live.ensures _ (rw is at c.search-found.ensures) _ (rw is at c.locate.ensures) _ c.in-Archive.is c.archive_line.ensures
+    λ _. line-in-archive _ _ _ _ refl (sym c.requires) refl _ c.live-live.ensures _ (rw is at c.search-found.ensures) _ (rw is at c.locate.ensures) _ c.in-None.is c.archive_line.ensures

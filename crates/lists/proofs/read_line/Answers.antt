@@ -1,12 +1,10 @@
-use Rattle.lists.proofs.Lines.{read-start, read_next, read-end}
-use borrow.Author.Rules.{rules}
+-- `lists::read_line` meets its contract.
+use native.Mathlib.Omega.{arith}
+use Prim.Native.Nat.{◌+◌, ◌-◌}
+use mathlib.Core.Path.{◌≡◌}
+use Rattle.lists.specs.Lines.{line_at}
 use Rattle.lists.proofs.read_line.Goals as goal
 
-pub loop-i-init : goal.loop-i-init
-loop-i-init c = read-start _ _ _ (search rules) (search rules)
-
-pub loop-i-preserved : goal.loop-i-preserved
-loop-i-preserved c = search read_next
-
 pub returns : goal.returns
-returns c = search read-end
+unfolding line_at
+returns c = let n : c.args.at + 16 - c.args.at ≡ 16 = omega arith in rw n at c.copy_from_slice.ensures.after

@@ -1,12 +1,9 @@
-use Rattle.lists.proofs.Lines.{copied-start, copied_next, copied-end}
+-- `lists::write_line` meets its contract.
+use Rattle.std.proofs.lemmas.Slice.{put_mid-paste}
 use borrow.Author.Rules.{rules}
+use Rattle.lists.specs.Lines.{paste_line}
 use Rattle.lists.proofs.write_line.Goals as goal
 
-pub loop-i-init : goal.loop-i-init
-loop-i-init c = copied-start _ _ _ (search rules) (search rules)
-
-pub loop-i-preserved : goal.loop-i-preserved
-loop-i-preserved c = search copied_next
-
 pub returns : goal.returns
-returns c = search copied-end
+unfolding paste_line
+returns c = search (rules, put_mid-paste)

@@ -1,33 +1,19 @@
 -- `lists::write_value` meets its contract.
-use Rattle.lists.proofs.Values.{four, edit-one, edit-two, edit-four}
-use native.Mathlib.Omega.{arith}
-use lib.ListN.{length-set}
+use Rattle.lists.proofs.Values.{four_inside, edit-one, edit-two, edit-four}
+use mathlib.Core.Path.{◌∙◌}
 use Rattle.lists.proofs.write_value.Goals as goal
 
 pub returns-then-width-eq1 : goal.returns-then-width-eq1
 returns-then-width-eq1 c = edit-one _ _ _ _ c.requires c.if-width-eq1.true
 
-pub bounds-list-at-then-width-eq2-2 : goal.bounds-list-at-then-width-eq2-2
-bounds-list-at-then-width-eq2-2 c = rw length-set (omega (arith, c.requires.inside, c.if-width-eq2.true))
-
 pub returns-then-width-eq2 : goal.returns-then-width-eq2
-returns-then-width-eq2 c = edit-two _ _ _ _ c.requires c.if-width-eq2.true
+returns-then-width-eq2 c =
+    edit-two _ _ _ _ c.requires _ c.if-width-eq2.true (c.copy_from_slice.ensures.after ∙ c.to_be_bytes.ensures)
 
-pub bounds-list-at-2 : goal.bounds-list-at-2
-bounds-list-at-2 c =
-    omega (arith, c.requires.inside, four _ c.requires.width_is c.if-width-eq1.false c.if-width-eq2.false)
-
-pub bounds-list-at-3 : goal.bounds-list-at-3
-bounds-list-at-3 c =
-    rw length-set (omega (arith, c.requires.inside, four _ c.requires.width_is c.if-width-eq1.false c.if-width-eq2.false))
-
-pub bounds-list-at-4 : goal.bounds-list-at-4
-bounds-list-at-4 c =
-    rw (length-set, length-set) (omega (arith, c.requires.inside, four _ c.requires.width_is c.if-width-eq1.false c.if-width-eq2.false))
-
-pub bounds-list-at-5 : goal.bounds-list-at-5
-bounds-list-at-5 c =
-    rw (length-set, length-set, length-set) (omega (arith, c.requires.inside, four _ c.requires.width_is c.if-width-eq1.false c.if-width-eq2.false))
+pub slice_bounds-copy_from_slice-end-2 : goal.slice_bounds-copy_from_slice-end-2
+slice_bounds-copy_from_slice-end-2 c = four_inside c.requires c.if-width-eq1.false c.if-width-eq2.false
 
 pub returns : goal.returns
-returns c = edit-four _ _ _ _ c.requires c.if-width-eq1.false c.if-width-eq2.false
+returns c =
+    edit-four _ _ _ _ c.requires _ c.if-width-eq1.false c.if-width-eq2.false
+    (c.copy_from_slice-2.ensures.after ∙ c.to_be_bytes-2.ensures)

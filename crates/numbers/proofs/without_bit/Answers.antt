@@ -1,22 +1,7 @@
 -- `numbers::without_bit` meets its contract.
-use native.Mathlib.Nat.{div-mul-le_self, mod-lt}
-use native.Mathlib.Omega.{arith}
-use lib.Pow.{pow_mono}
 use Rattle.numbers.proofs.Digits.{unset-told}
 use borrow.Author.Rules.{rules}
 use Rattle.numbers.proofs.without_bit.Goals as goal
-
-pub overflow_mul-result : goal.overflow_mul-result
-overflow_mul-result c = omega (arith, div-mul-le_self c.args.x c.power_of_two-above.result)
-
-pub overflow_add-result : goal.overflow_add-result
-overflow_add-result c =
-    omega (
-      arith,
-      div-mul-le_self c.args.x c.power_of_two-above.result,
-      pow_mono {i = c.args.p} {j = 15} (omega arith),
-      mod-lt c.args.x c.power_of_two-here.ensures.1,
-    )
 
 pub returns : goal.returns
 returns c = unset-told _ _ _ _ c.power_of_two-here.ensures.0 c.power_of_two-above.ensures.0 (search rules)

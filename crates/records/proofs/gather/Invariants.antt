@@ -1,10 +1,10 @@
 -- `records::gather` meets its contract.
-use Prim.Native.Nat.{◌-◌}
+use lib.ListN.{length}
 use Rattle.records.proofs.Gathering.{Gathering}
 use Rattle.records.proofs.gather.Given as goal
 
-abbrev pub invariant-loop-at : goal.invariant-loop-at
-invariant-loop-at l = Gathering l.line l.end l.numbers l.found l.at
+abbrev pub invariant-loop-fields : goal.invariant-loop-fields
+invariant-loop-fields l = Gathering l.text l.numbers l.count l.rest
 
-abbrev pub decreases-loop-at : goal.decreases-loop-at
-decreases-loop-at l = l.count - l.at
+abbrev pub decreases-loop-fields : goal.decreases-loop-fields
+decreases-loop-fields l = length l.rest

@@ -1,4 +1,5 @@
 -- `replies::call` meets its contract: each record's call has the promise that the store's function ensures.
+use Rattle.versions.specs.Newest.{origin_of}
 use Rattle.replies.specs.Lines.{answer_of}
 use Rattle.replies.proofs.Calls.{called-reset, called-read, called-write, called-mark, called-back, called-advance, called-counts}
 use Rattle.replies.proofs.call.Goals as goal
@@ -7,9 +8,14 @@ pub returns-in-Reset : goal.returns-in-Reset
 returns-in-Reset c =
     search (called-reset, c.in-Reset.is, c.number-first.ensures, c.number-second.ensures, c.number-third.ensures, c.reset.ensures.0, c.outcome_reply.ensures.0, c.outcome_reply.ensures.1)
 
-pub returns-in-Read : goal.returns-in-Read
+pub returns-in-Ok-clause-promise : goal.returns-in-Ok-clause-promise
 unfolding answer_of
-returns-in-Read c = search called-read
+returns-in-Ok-clause-promise c = called-read _ _ _ _ _ _ _ c.in-Read.is c.number-first.ensures c.number-second.ensures c.in-Ok.ensures.0
+
+pub returns-in-Err-clause-promise : goal.returns-in-Err-clause-promise
+unfolding answer_of origin_of
+returns-in-Err-clause-promise c =
+    rw c.from.ensures (called-read _ _ _ _ _ _ _ c.in-Read.is c.number-first.ensures c.number-second.ensures c.in-Err.ensures.0)
 
 pub returns-in-Write : goal.returns-in-Write
 returns-in-Write c =
@@ -26,6 +32,11 @@ pub returns-in-Advance : goal.returns-in-Advance
 returns-in-Advance c =
     search (called-advance, c.in-Advance.is, c.number-first.ensures, c.advance.ensures.0, c.outcome_reply-in-Advance.ensures.0, c.outcome_reply-in-Advance.ensures.1)
 
-pub returns-in-Counts : goal.returns-in-Counts
+pub returns-in-Ok-counts-clause-promise : goal.returns-in-Ok-counts-clause-promise
 unfolding answer_of
-returns-in-Counts c = search called-counts
+returns-in-Ok-counts-clause-promise c = called-counts _ _ _ _ _ c.in-Counts.is c.in-Ok-counts.ensures
+
+pub returns-in-Err-counts-clause-promise : goal.returns-in-Err-counts-clause-promise
+unfolding answer_of
+returns-in-Err-counts-clause-promise c =
+    rw c.from-in-Err-counts.ensures (called-counts _ _ _ _ _ c.in-Counts.is c.in-Err-counts.ensures)

@@ -1,14 +1,15 @@
 -- `runner::answer_chunk` meets its contract.
-use Prim.Native.Nat.{◌-◌}
 use lib.ListN.{length}
-use Rattle.store.specs.Shown.{lent_of}
+use Rattle.store.specs.Memory.{lent_in, SamePieces}
 use Rattle.runner.proofs.Going.{Going}
 use Rattle.runner.proofs.answer_chunk.Given as goal
 
-abbrev pub invariant-loop-from : goal.invariant-loop-from
-invariant-loop-from g l =
-    Going l.initial.current (lent_of l.initial.archive l.initial.pool l.initial.groups l.initial.table l.initial.owners l.initial.history) l.chunk l.initial.out l.current
-    (lent_of l.archive l.pool l.groups l.table l.owners l.history) l.out l.from
+abbrev pub invariant-loop-rest : goal.invariant-loop-rest
+invariant-loop-rest g l =
+    record {
+      pieces : SamePieces l.initial.memory l.memory;
+      going : Going l.fn.before (lent_in l.initial.memory) l.chunk l.initial.out l.runner (lent_in l.memory) l.out l.rest;
+    }
 
-abbrev pub decreases-loop-from : goal.decreases-loop-from
-decreases-loop-from g l = length l.chunk - l.from
+abbrev pub decreases-loop-rest : goal.decreases-loop-rest
+decreases-loop-rest g l = length l.rest

@@ -2,9 +2,9 @@
 use Rattle.session.proofs.Resting.{rested-full, rested-kept}
 use Rattle.session.proofs.feed_rest.Goals as goal
 
-pub returns-then-room-filled-lt-LONGEST : goal.returns-then-room-filled-lt-LONGEST
-returns-then-room-filled-lt-LONGEST c = search rested-full
+pub returns-then-room-lines-lt-LONGEST-clause-rested : goal.returns-then-room-lines-lt-LONGEST-clause-rested
+returns-then-room-lines-lt-LONGEST-clause-rested c = search rested-full
 
-pub returns : goal.returns
-returns c =
-    search (rested-kept, c.answer_lines-lines.ensures.0, c.answer_lines-lines.ensures.1, c.if-room-filled-lt-LONGEST.false, c.no_line-none.ensures, c.keep-reader.ensures)
+pub returns-clause-rested : goal.returns-clause-rested
+returns-clause-rested c =
+    search (rested-kept, c.answer_lines-lines.ensures.lines.0, c.answer_lines-lines.ensures.lines.1, c.if-room-lines-lt-LONGEST.false, c.no_line-none.ensures, c.keep-reader.ensures)

@@ -1,5 +1,10 @@
 -- `store::advance` meets its contract.
+use Rattle.rules.proofs.Refusals.{err-is, number-some}
+use Rattle.storage.proofs.Looking.{advance-kept}
 use Rattle.store.proofs.advance.Goals as goal
 
+pub returns-in_err-registers : goal.returns-in_err-registers
+returns-in_err-registers c = rw (err-is _ _ c.from_residual.ensures.1) (advance-kept _ _ _ _ (c.in_err-registers.ensures _ _ _ _) (number-some _))
+
 pub returns : goal.returns
-returns c = c.advance-step.ensures _ _ _ _
+returns c = c.in_ok-registers.ensures _ _ _ _

@@ -1,35 +1,24 @@
+use mathlib.Core.Path.{◌∙◌}
 use native.Mathlib.Omega.{arith}
-use mathlib.Core.Path.{sym, ◌∙◌}
-use borrow.Author.Tests.{not-false}
-use Rattle.text.proofs.Reading.{reading-start, reading-next, reading-room, number-empty, number-long, number-other, number-large, number_is}
+use Rattle.std.proofs.lemmas.Bool.Decides.{nat_tests}
+use Rattle.text.proofs.Reading.{number-empty, number-long, number-other, reading-next, digit-other, number-read}
 use Rattle.text.proofs.read_number.Goals as goal
+use Rattle.text.proofs.read_number.Goals.{then-is_empty-via-then-is_empty, then-is_empty-via-else-is_empty+then-field-gt10}
 
-pub returns-then-count-eq0 : goal.returns-then-count-eq0
-returns-then-count-eq0 c = search number-empty
+pub returns-then-is_empty : goal.returns-then-is_empty
+returns-then-is_empty c =
+    elim c.then-is_empty.branch [
+      | then-is_empty-via-then-is_empty w ↦ number-empty _ (grind (arith, nat_tests))
+      | then-is_empty-via-else-is_empty+then-field-gt10 w ↦ number-long _ w.if-field-gt10.true
+    ]
 
-pub returns-then-count-gt10 : goal.returns-then-count-gt10
-returns-then-count-gt10 c = search number-long
+pub returns-then-not-is_ascii_digit : goal.returns-then-not-is_ascii_digit
+returns-then-not-is_ascii_digit c = number-other _ _ _ c.loop-b.invariant c.loop-b-test.true (digit-other _ c.if-not-is_ascii_digit.ensures.cases)
 
-pub loop-i-init : goal.loop-i-init
-loop-i-init c = search reading-start
-
-pub returns-then-not-is_digit : goal.returns-then-not-is_digit
-returns-then-not-is_digit c = number-other _ _ _ c.loop-i.invariant _ c.loop-i-test.true c.is_digit.ensures c.if-not-is_digit.true-raw
-
-pub overflow_mul-value : goal.overflow_mul-value
-overflow_mul-value c = omega (arith, reading-room _ _ _ c.loop-i.invariant c.loop-i-test.true c.if-count-gt10.false)
-
-pub digit_value-requires : goal.digit_value-requires
-digit_value-requires c = sym c.is_digit.ensures ∙ not-false _ c.if-not-is_digit.false-raw
-
-pub overflow_add-value : goal.overflow_add-value
-overflow_add-value c = omega (arith, c.digit_value.ensures.1, reading-room _ _ _ c.loop-i.invariant c.loop-i-test.true c.if-count-gt10.false)
-
-pub loop-i-preserved : goal.loop-i-preserved
-loop-i-preserved c = reading-next _ _ _ c.loop-i.invariant _ _ c.loop-i-test.true c.is_digit.ensures c.if-not-is_digit.false-raw c.digit_value.ensures
-
-pub returns-then-value-gt4294967295 : goal.returns-then-value-gt4294967295
-returns-then-value-gt4294967295 c = number-large _ _ _ c.loop-i.invariant c.loop-i-test.false c.if-value-gt4294967295.true
+pub loop-b-preserved : goal.loop-b-preserved
+loop-b-preserved c =
+    let digit = c.if-not-is_ascii_digit.ensures.cases in
+    rw c.from.ensures (reading-next _ _ _ c.loop-b.invariant c.loop-b-test.true digit.0 digit.1)
 
 pub returns : goal.returns
-returns c = number_is _ _ _ c.loop-i.invariant c.if-count-eq0.false c.if-count-gt10.false c.loop-i-test.false c.if-value-gt4294967295.false
+returns c = c.ok.ensures.value ∙ number-read _ _ _ c.loop-b.invariant (grind (arith, nat_tests)) c.if-field-gt10.false c.loop-b-test.false _ c.try_from.ensures

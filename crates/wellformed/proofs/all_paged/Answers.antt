@@ -1,28 +1,16 @@
-use native.Mathlib.Omega.{arith}
-use Rattle.wellformed.proofs.Deciding.{says-yes, passes, part-fails, all_start, all-next, all_end}
-use Rattle.wellformed.proofs.Rings.{entry_few, entries-paged, paged-entry}
+-- `wellformed::all_paged` meets its contract.
+use Rattle.std.proofs.Common.{ℕ, rules, refl, arith}
+use Rattle.std.proofs.lemmas.Iterator.{cases_from_all, YieldsList-from_range}
+use Rattle.written.specs.Bits.{Written, written_at}
+use Rattle.pages.specs.Table.{entries_of}
+use Rattle.wellformed.proofs.Deciding.{decided-as, told-yes, told-no, all-told}
+use Rattle.wellformed.proofs.Rings.{EntryPaged, entries-paged, paged-entry}
 use Rattle.wellformed.proofs.all_paged.Goals as goal
 
-pub overflow_mul-entries : goal.overflow_mul-entries
-overflow_mul-entries c = omega (arith, entry_few _ _ c.requires.0)
-
-pub loop-entry-init : goal.loop-entry-init
-loop-entry-init c = all_start _
-
-pub is_paged-requires : goal.is_paged-requires
-is_paged-requires c = (c.requires.0, c.requires.1, c.loop-entry-test.true)
-
-pub returns-then-not-is_paged : goal.returns-then-not-is_paged
-returns-then-not-is_paged c = part-fails _ (λ h. paged-entry _ _ _ _ _ c.args.owners.now c.requires.0 h _ c.loop-entry-test.true) c.is_paged.ensures c.if-not-is_paged.true-raw
-
-pub overflow_add-entry : goal.overflow_add-entry
-overflow_add-entry c = omega (arith, entry_few _ _ c.requires.0)
-
-pub loop-entry-smaller : goal.loop-entry-smaller
-loop-entry-smaller c = omega arith
-
-pub loop-entry-preserved : goal.loop-entry-preserved
-loop-entry-preserved c = all-next _ _ c.loop-entry.invariant (passes _ c.is_paged.ensures c.if-not-is_paged.false-raw)
-
 pub returns : goal.returns
-returns c = says-yes (entries-paged _ _ _ _ _ _ (all_end _ _ _ c.loop-entry.invariant c.loop-entry-test.false))
+returns c =
+    let w : Written = written_at c.args.ring.shape c.args.groups.now c.args.history.now in
+    let n : ℕ = entries_of w in
+    let Paged = EntryPaged w c.args.ring.pages c.args.ring.first c.args.ring.used c.args.table.now c.args.owners.now in
+    let all = cases_from_all _ _ _ Paged (λ entry. Paged entry → ⊥) c.all.ensures.ran (YieldsList-from_range 0 n n refl (omega arith)) (λ x q k. search (rules, told-yes)) (λ x q k. search (rules, told-no)) in
+    decided-as _ (entries-paged _ _ _ _ _ _) (paged-entry _ _ _ _ _ _ c.requires.0) (all-told n Paged _ all)

@@ -1,22 +1,12 @@
-use native.Mathlib.Omega.{arith}
-use Rattle.wellformed.proofs.Deciding.{says-yes, passes, part-fails, all_start, all-next, all_end}
-use Rattle.wellformed.proofs.Archives.{archive-asks}
+-- `wellformed::archive` meets its contract.
+use Rattle.std.proofs.Common.{rules, refl, arith}
+use Rattle.std.proofs.lemmas.Iterator.{cases_from_all, YieldsList-from_range}
+use Rattle.wellformed.specs.Parts.{CollectedOrZero}
+use Rattle.wellformed.proofs.Deciding.{told-yes, told-no, all-told}
 use Rattle.wellformed.proofs.archive.Goals as goal
 
-pub loop-line-init : goal.loop-line-init
-loop-line-init c = all_start _
-
-pub is_collected_or_zero-requires : goal.is_collected_or_zero-requires
-is_collected_or_zero-requires c = archive-asks _ _ _ _ _ c.requires c.loop-line-test.true
-
-pub returns-then-not-is_collected_or_zero : goal.returns-then-not-is_collected_or_zero
-returns-then-not-is_collected_or_zero c = part-fails _ (λ h. h _ c.loop-line-test.true) c.is_collected_or_zero.ensures c.if-not-is_collected_or_zero.true-raw
-
-pub loop-line-smaller : goal.loop-line-smaller
-loop-line-smaller c = omega arith
-
-pub loop-line-preserved : goal.loop-line-preserved
-loop-line-preserved c = all-next _ _ c.loop-line.invariant (passes _ c.is_collected_or_zero.ensures c.if-not-is_collected_or_zero.false-raw)
-
 pub returns : goal.returns
-returns c = says-yes (all_end _ _ _ c.loop-line.invariant c.loop-line-test.false)
+returns c =
+    let Well = CollectedOrZero c.args.pages c.args.archive.now c.args.owners.now in
+    let all = cases_from_all _ _ _ Well (λ line. Well line → ⊥) c.all.ensures.ran (YieldsList-from_range 0 c.args.lines c.args.lines refl (omega arith)) (λ x q k. search (rules, told-yes)) (λ x q k. search (rules, told-no)) in
+    all-told c.args.lines Well _ all

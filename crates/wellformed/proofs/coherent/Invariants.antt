@@ -1,5 +1,4 @@
 -- `wellformed::coherent` meets its contract.
-use Prim.Native.Nat.{◌-◌}
 use Rattle.cache.specs.Entries.{Sized}
 use Rattle.written.specs.Bits.{written_at}
 use Rattle.wellformed.proofs.Deciding.{AllBelow}
@@ -9,6 +8,3 @@ use Rattle.wellformed.proofs.coherent.Given as goal
 abbrev pub invariant-loop-e : goal.invariant-loop-e
 invariant-loop-e l =
     (Sized l.cache) × (AllBelow l.e (IfValid (written_at l.shape l.groups l.history) l.pages l.live l.archive l.pool l.table l.cache))
-
-abbrev pub decreases-loop-e : goal.decreases-loop-e
-decreases-loop-e l = 32 - l.e

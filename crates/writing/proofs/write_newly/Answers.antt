@@ -13,12 +13,12 @@ page_for-choice-requires c =
 
 pub put_value-requires : goal.put_value-requires
 put_value-requires c =
-    (asks_write _ _ _ _ _ c.requires.0 (sym c.requires.1) refl _ c.ring-ring.ensures _ c.page_for-choice.ensures.0 _ _ c.live-live.ensures c.in-At.is, c.requires.2)
+    (asks_write _ _ _ _ _ c.requires.0 (sym c.requires.1) refl _ c.ring-ring.ensures _ c.page_for-choice.ensures.0 _ _ c.live-live.ensures c.in-Some.is, c.requires.2)
 
-pub returns-in-At : goal.returns-in-At
-returns-in-At c =
-    write_done _ _ _ _ _ c.requires.0 (sym c.requires.1) refl _ c.ring-ring.ensures _ c.page_for-choice.ensures.0 _ c.in-At.is _ c.live-live.ensures _ _ c.put_value.ensures _ c.page_for-choice.ensures.1
+pub returns-in-Some : goal.returns-in-Some
+returns-in-Some c =
+    write_done _ _ _ _ _ c.requires.0 (sym c.requires.1) refl _ c.ring-ring.ensures _ c.page_for-choice.ensures.0 _ c.in-Some.is _ c.live-live.ensures _ _ c.put_value.ensures _ c.page_for-choice.ensures.1
 
-pub returns-in-Nothing : goal.returns-in-Nothing
-returns-in-Nothing c =
-    write-full _ _ _ _ _ c.requires.0 (sym c.requires.1) refl _ c.ring-ring.ensures _ c.page_for-choice.ensures.0 c.in-Nothing.is
+pub returns-in-None : goal.returns-in-None
+returns-in-None c =
+    write-full _ _ _ _ _ c.requires.0 (sym c.requires.1) refl _ c.ring-ring.ensures _ c.page_for-choice.ensures.0 c.in-None.is

@@ -1,7 +1,7 @@
 -- `written::after_wrap` meets its contract.
-use Rattle.written.proofs.Windows.{after-told}
+use Rattle.written.specs.Bits.{after_wrap}
 use Rattle.written.proofs.after_wrap.Goals as goal
 
 pub returns : goal.returns
-returns c =
-    after-told _ _ _ _ _ _ _ c.min.ensures c.min-2.ensures c.range.ensures
+unfolding after_wrap
+returns c = cc

@@ -1,10 +1,6 @@
 -- `written::masks_of` meets its contract.
-use Prim.Native.Nat.{◌-◌}
 use Rattle.written.proofs.Sweeping.{MasksTo}
 use Rattle.written.proofs.masks_of.Given as goal
 
 abbrev pub invariant-loop-t : goal.invariant-loop-t
 invariant-loop-t l = MasksTo l.s l.u l.history l.t l.masks
-
-abbrev pub decreases-loop-t : goal.decreases-loop-t
-decreases-loop-t l = 256 - l.t

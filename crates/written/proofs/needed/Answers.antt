@@ -1,11 +1,8 @@
 -- `written::needed` meets its contract.
 use native.Mathlib.Omega.{arith}
-use Rattle.written.proofs.Blanks.{set-asks, none-set, index-within}
+use Rattle.written.proofs.Blanks.{none-set, index-within}
 use Rattle.written.proofs.Blocks.{one-frame}
 use Rattle.written.proofs.needed.Goals as goal
-
-pub set_in-requires : goal.set_in-requires
-set_in-requires c = set-asks _ _ _ c.requires
 
 pub returns-then-set_in-eq0 : goal.returns-then-set_in-eq0
 returns-then-set_in-eq0 c = search none-set

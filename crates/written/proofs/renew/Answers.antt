@@ -1,10 +1,7 @@
 -- `written::renew` meets its contract.
 use native.Mathlib.Omega.{arith}
-use Rattle.written.proofs.Renewing.{renew-asks, renew-near, renew-stays, renew-told}
+use Rattle.written.proofs.Renewing.{renew-asks, renew-stays, renew-told}
 use Rattle.written.proofs.renew.Goals as goal
-
-pub group_at-group-requires : goal.group_at-group-requires
-group_at-group-requires c = renew-near _ _ _ _ c.requires
 
 pub returns-then-group-tag : goal.returns-then-group-tag
 returns-then-group-tag c =

@@ -1,9 +1,7 @@
 -- `written::stands_in` meets its contract.
-use Rattle.written.proofs.Blocks.{stands_at, stands-none}
+use mathlib.Core.Path.{◌∙◌}
+use Rattle.written.proofs.Blocks.{stands-told}
 use Rattle.written.proofs.stands_in.Goals as goal
 
-pub returns-in-At : goal.returns-in-At
-returns-in-At c = search stands_at
-
-pub returns-in-Nothing : goal.returns-in-Nothing
-returns-in-Nothing c = search stands-none
+pub returns : goal.returns
+returns c = c.is_some.ensures ∙ stands-told _ _ _ _ _ _ _ _ c.saturating_sub.ensures c.min-top.ensures c.newest_bit.ensures

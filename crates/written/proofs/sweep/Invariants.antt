@@ -1,12 +1,9 @@
 -- `written::sweep` meets its contract.
-use Prim.Native.Nat.{◌-◌, ◌*◌, ◌/◌, ◌≤◌}
+use Prim.Native.Nat.{◌*◌, ◌/◌}
 use Rattle.lists.proofs.Lists.{Rewritten}
 use Rattle.written.specs.Steps.{masked_of}
 use Rattle.written.proofs.sweep.Given as goal
 
 abbrev pub invariant-loop-area : goal.invariant-loop-area
 invariant-loop-area l =
-    (l.area ≤ l.areas) × Rewritten (l.area * l.shape.lines) (λ at g. masked_of l.shape.frames l.shape.omf (at / l.shape.lines) l.history g) l.initial.groups l.groups
-
-abbrev pub decreases-loop-area : goal.decreases-loop-area
-decreases-loop-area l = l.areas - l.area
+    Rewritten (l.area * l.shape.lines) (λ at g. masked_of l.shape.frames l.shape.omf (at / l.shape.lines) l.history g) l.initial.groups l.groups

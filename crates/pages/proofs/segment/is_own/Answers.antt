@@ -1,13 +1,24 @@
 -- `pages::segment::is_own` meets its contract.
+use mathlib.Core.Path.{sym, ◌∙◌}
+use native.Mathlib.Omega.{arith}
+use borrow.Author.Tests.{ltb-true, ltb-false}
 use Rattle.pages.proofs.Owning.{own-past, own-outside, own-told}
 use Rattle.pages.proofs.segment.is_own.Goals as goal
+use Rattle.pages.proofs.segment.is_own.Goals.{then-page-ring, else-page-ring}
 
-pub returns-then-ring-page : goal.returns-then-ring-page
-returns-then-ring-page c = search own-past
+pub returns-then-index-ring : goal.returns-then-index-ring
+returns-then-index-ring c =
+    elim c.if-page-ring.branch [
+      | then-page-ring w ↦
+          own-told _ _ _ _ _ _ w.if-page-ring.true _ w.index.ensures (ltb-true _ _ (sym w.value-is ∙ c.if-index-ring.true))
+      | else-page-ring w ↦ absurd (omega (arith, ltb-true _ _ (sym w.value-is ∙ c.if-index-ring.true)))
+    ]
 
-pub returns-then-ring-index : goal.returns-then-ring-index
-returns-then-ring-index c = search own-outside
-
-pub returns : goal.returns
-returns c =
-    own-told _ _ _ _ _ _ c.if-ring-page.false _ c.index.ensures c.if-ring-index.false
+pub returns-else-index-ring : goal.returns-else-index-ring
+returns-else-index-ring c =
+    elim c.if-page-ring.branch [
+      | then-page-ring w ↦
+          c.if-index-ring.false
+          ∙ own-outside _ _ _ _ _ _ w.if-page-ring.true _ w.index.ensures (ltb-false _ _ (sym w.value-is ∙ c.if-index-ring.false))
+      | else-page-ring w ↦ c.if-index-ring.false ∙ own-past _ _ _ _ _ _ w.if-page-ring.false
+    ]

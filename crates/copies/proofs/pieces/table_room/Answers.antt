@@ -1,7 +1,0 @@
--- `copies::table_room` gives a list of its length.
-use Rattle.std.proofs.Common.{ℕ, sym}
-use lib.ListN.{length-replicate}
-use Rattle.copies.proofs.pieces.table_room.Goals as goal
-
-pub returns : goal.returns
-returns c = sym (length-replicate {A = ℕ} 131072 0)

@@ -1,7 +1,0 @@
--- `copies::unanswered` gives a list of its length.
-use Rattle.std.proofs.Common.{ℕ, sym}
-use lib.ListN.{length-replicate}
-use Rattle.copies.proofs.pieces.unanswered.Goals as goal
-
-pub returns : goal.returns
-returns c = sym (length-replicate {A = ℕ} 256 77)

@@ -1,5 +1,5 @@
 // The calls that look at a line: READ, LINE and its companion. They take the registers by value and the cache's arrays where they lie, so that
-// nothing of the cache is copied. `store` has the same calls on a whole state by value, `vcm` exports them.
+// nothing of the cache is copied. `store` has the same calls on a whole state, `vcm` exports them.
 #![tactic(auto)]
 
 ghost use Rattle.std.specs.Prelude.{◌≡◌, None};

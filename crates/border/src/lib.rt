@@ -52,17 +52,10 @@ pub fn write_registers(lent: &mut [u32; 8], registers: Registers)
     ];
 }
 
-// That they are eight is in their type, and code that has them behind a reference learns it here. The copy is never read.
-fn has_all(lent: [u32; 8])
-    ensures { length lent ≡ 8 }
-{}
-
 // Puts in their place how many pages are in use; the others stay.
 pub fn write_used(lent: &mut [u32; 8], used: u32)
     ensures { registers_from lent.new ≡ given_registers (registers_from lent.old) used }
 {
-    let all = *lent;
-    has_all(all);
     lent[7] = used;
 }
 
@@ -72,7 +65,7 @@ pub fn origin_number(found: Origin) -> u32
 {
     match found {
         Origin::Cache => CACHE,
-        Origin::Frame(back) => FRAME,
+        Origin::Frame(_) => FRAME,
         Origin::Archive => ARCHIVE,
         Origin::Empty => EMPTY,
     }
@@ -97,6 +90,5 @@ pub fn copy_line(part: &[u8], bytes: &mut [u8; 16])
     if part.len() != 16 {
         return;
     }
-    let line = lists::read_line(part, 0);
-    *bytes = line;
+    bytes.copy_from_slice(part);
 }

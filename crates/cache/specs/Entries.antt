@@ -1,4 +1,4 @@
--- The entries of the cache: "The cache has 16 sets of two ways; a line's set is its number modulo 16." Option ℕ 2 * set + way.
+-- The entries of the cache: "The cache has 16 sets of two ways; a line's set is its number modulo 16." Entry 2 * set + way.
 use Rattle.std.specs.Prelude.{ℕ, ◌+◌, ◌*◌, ◌/◌, ◌%◌, ◌<◌, ◌≡◌, Bool, true, false, cond, not, ◌&&◌, List, eqb, length, get_or, Option, Some, None}
 use Rattle.rules.specs.Figure3.{set_of}
 use Rattle.lists.specs.Lines.{line_at}

@@ -62,7 +62,7 @@ impl Second {
         for (item, answer) in items.chunks_exact(3).zip(answers) {
             if let [width, address, value] = *item {
                 let made = store::write(
-                    after,
+                    &mut after,
                     archive,
                     &mut self.pool,
                     &mut self.groups,
@@ -73,7 +73,6 @@ impl Second {
                     address,
                     value,
                 );
-                after = made.unwrap_or(after);
                 tried.count(store::refusal_number(&made), *answer, 1);
             }
         }
@@ -104,11 +103,11 @@ pub fn call(
     second.copy(pool, groups, table, owners);
     let m = answers_lent(call);
     let lent = &mut answers[..m];
+    let mut after = state;
     let made = store::write_block(
-        state, archive, pool, groups, table, owners, history, items, lent,
+        &mut after, archive, pool, groups, table, owners, history, items, lent,
     );
     let outcome = outcome_of(&made);
-    let after = made.unwrap_or(state);
     let sent = if outcome.is_ok() { items } else { &[] };
     let (other, mut tried) = second.singly(state, archive, history, sent, answers);
     tried.apart = states_apart(&after, &other) | second.apart(pool, groups, table, owners);

@@ -49,8 +49,8 @@ fn line(
     history: &[u16],
     line: u32,
 ) -> Told {
-    let made = store::line_refusal(state, archive, pool, groups, table, owners, history, line);
-    let lent = store::line(state, archive, pool, groups, table, owners, history, line);
+    let made = store::line_refusal(&state, archive, pool, groups, table, owners, history, line);
+    let lent = store::line(&state, archive, pool, groups, table, owners, history, line);
     let said = Said::Line {
         first: number(lent, 0),
         second: number(lent, 8),
@@ -64,7 +64,7 @@ fn line(
 }
 
 fn read(
-    state: State,
+    mut state: State,
     archive: &[u8],
     pool: &[u8],
     groups: &[u32],
@@ -74,12 +74,12 @@ fn read(
     call: Call,
 ) -> Told {
     let made = store::read(
-        state, archive, pool, groups, table, owners, history, call.a, call.b,
+        &mut state, archive, pool, groups, table, owners, history, call.a, call.b,
     );
     let outcome = outcome_of(&made);
     match made {
         Ok(got) => Told {
-            state: got.state,
+            state,
             answer: Answer {
                 outcome,
                 said: Said::Read {
@@ -107,7 +107,7 @@ fn counts(
     owners: &[u32],
     history: &[u16],
 ) -> Told {
-    let made = store::counts(state, archive, pool, groups, table, owners, history);
+    let made = store::counts(&state, archive, pool, groups, table, owners, history);
     let outcome = outcome_of(&made);
     let said = match made {
         Ok(got) => Said::Counts {
@@ -131,7 +131,7 @@ fn check(
     owners: &[u32],
     history: &[u16],
 ) -> Told {
-    let made = store::check(state, archive, pool, groups, table, owners, history);
+    let made = store::check(&state, archive, pool, groups, table, owners, history);
     let outcome = outcome_of(&made);
     let said = Said::Check(made.unwrap_or(false));
     Told {
@@ -142,7 +142,7 @@ fn check(
 
 // A call that gives no more than the state.
 fn change(
-    state: State,
+    state: &mut State,
     archive: &mut [u8],
     pool: &mut [u8],
     groups: &mut [u32],
@@ -150,7 +150,7 @@ fn change(
     owners: &mut [u32],
     history: &mut [u16],
     call: Call,
-) -> Result<State, store::Refusal> {
+) -> Result<(), store::Refusal> {
     match call.kind {
         Kind::Reset => store::reset(
             state, archive, pool, groups, table, owners, history, call.a, call.b, call.c,
@@ -168,7 +168,7 @@ fn change(
 
 // The call, on what is lent.
 fn made(
-    state: State,
+    mut state: State,
     archive: &mut [u8],
     pool: &mut [u8],
     groups: &mut [u32],
@@ -188,10 +188,12 @@ fn made(
             state, archive, pool, groups, table, owners, history, items, call, answers,
         ),
         _ => {
-            let made = change(state, archive, pool, groups, table, owners, history, call);
+            let made = change(
+                &mut state, archive, pool, groups, table, owners, history, call,
+            );
             let outcome = outcome_of(&made);
             Told {
-                state: made.unwrap_or(state),
+                state,
                 answer: Answer {
                     outcome,
                     said: Said::Nothing,

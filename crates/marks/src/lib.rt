@@ -1,5 +1,5 @@
 // The calls on frames: MARK, ROLLBACK, ADVANCE and COUNTS. They take the registers by value and, of the cache, the arrays that they look at
-// where they lie. `store` has the same calls on a whole state by value, `vcm` exports them.
+// where they lie. `store` has the same calls on a whole state, `vcm` exports them.
 #![tactic(auto)]
 
 ghost use Rattle.std.specs.Result.{result_unwrap_or};

@@ -42,7 +42,7 @@ impl Refusal {
     }
 }
 
-// The numbers of a line: the first so many.
+// The numbers of a line: the first so many. (An array and a count, since nothing here allocates.)
 #[derive(Clone, Copy)]
 struct Numbers {
     count: usize,

@@ -4,7 +4,6 @@
 ghost use Rattle.std.specs.Prelude.{◌≡◌, ◌∷◌, ◌+◌, ◌≤◌, length};
 ghost use Rattle.text.specs.Numbers.{decimal};
 ghost use Rattle.text.specs.Output.{Puts};
-ghost use Rattle.std.specs.Result.{result_unwrap_or};
 ghost use Rattle.rules.specs.Call.Answer.{outcome};
 ghost use Rattle.rules.specs.Refusals.{refusal_in};
 ghost use Rattle.records.specs.Shown.{numbers_of};
@@ -71,7 +70,7 @@ pub const LONGEST: usize = 64;
 // The longest line of the tally.
 pub const LONGEST_END: usize = 64;
 
-// Puts an answer line.
+// Puts an answer line. (Any number may be the refusal, as `answer_of` has it; an enum would ask more of callers.)
 pub fn put_answer(out: &mut [u8], at: usize, refusal: u32, shown: Shown) -> usize
     requires { at + longest ≤ length out.old }
     ensures { Puts out.old at (answer_line (answer_of refusal shown)) out.new result }
@@ -106,19 +105,19 @@ pub struct Reply {
     pub shown: Shown,
 }
 
-// What a call gave that gives the state alone, or is refused.
-fn outcome_reply(before: State, done: Result<State, Refusal>) -> Reply
-    ensures { (result.state ≡ result_unwrap_or done before) × (answer_of result.refusal result.shown ≡ outcome (refusal_in done)) }
+// What a call gave that has no values.
+fn outcome_reply(state: State, done: Result<(), Refusal>) -> Reply
+    ensures { (result.state ≡ state) × (answer_of result.refusal result.shown ≡ outcome (refusal_in done)) }
 {
     Reply {
-        state: done.unwrap_or(before),
+        state,
         refusal: store::refusal_number(&done),
         shown: Shown::Nothing,
     }
 }
 
 // The call that a record asks for.
-pub fn call(state: State, memory: &mut Memory, asked: Record) -> Reply
+pub fn call(mut state: State, memory: &mut Memory, asked: Record) -> Reply
     ensures pieces { SamePieces memory.old memory.new }
     ensures promise { Promises (call_of asked.word (numbers_of asked))
         (kept state (lent_in memory.old))
@@ -136,55 +135,65 @@ pub fn call(state: State, memory: &mut Memory, asked: Record) -> Reply
     let third = records::number(asked, 2);
     let word = asked.word;
     match word {
-        Word::Reset => outcome_reply(
-            state,
-            store::reset(
-                state, archive, pool, groups, table, owners, history, first, second, third,
-            ),
-        ),
-        Word::Read => match store::read(
-            state, archive, pool, groups, table, owners, history, first, second,
-        ) {
-            Ok(got) => Reply {
-                state: got.state,
-                refusal: 0,
-                shown: Shown::Read(got.value, got.origin),
-            },
-            Err(refusal) => Reply {
-                state,
-                refusal: u32::from(refusal),
-                shown: Shown::Read(0, Origin::Archive),
-            },
-        },
-        Word::Write => outcome_reply(
-            state,
-            store::write(
-                state, archive, pool, groups, table, owners, history, first, second, third,
-            ),
-        ),
-        Word::Mark => outcome_reply(
-            state,
-            store::mark(state, archive, pool, groups, table, owners, history),
-        ),
-        Word::Back => outcome_reply(
-            state,
-            store::rollback(state, archive, pool, groups, table, owners, history, first),
-        ),
-        Word::Advance => outcome_reply(
-            state,
-            store::advance(state, archive, pool, groups, table, owners, history, first),
-        ),
-        Word::Counts => match store::counts(state, archive, pool, groups, table, owners, history) {
-            Ok(got) => Reply {
-                state,
-                refusal: 0,
-                shown: Shown::Counts(got.live, got.pages),
-            },
-            Err(refusal) => Reply {
-                state,
-                refusal: u32::from(refusal),
-                shown: Shown::Counts(0, 0),
-            },
-        },
+        Word::Reset => {
+            let done = store::reset(
+                &mut state, archive, pool, groups, table, owners, history, first, second, third,
+            );
+            outcome_reply(state, done)
+        }
+        Word::Read => {
+            let read = store::read(
+                &mut state, archive, pool, groups, table, owners, history, first, second,
+            );
+            match read {
+                Ok(got) => Reply {
+                    state,
+                    refusal: 0,
+                    shown: Shown::Read(got.value, got.origin),
+                },
+                Err(refusal) => Reply {
+                    state,
+                    refusal: u32::from(refusal),
+                    shown: Shown::Read(0, Origin::Archive),
+                },
+            }
+        }
+        Word::Write => {
+            let done = store::write(
+                &mut state, archive, pool, groups, table, owners, history, first, second, third,
+            );
+            outcome_reply(state, done)
+        }
+        Word::Mark => {
+            let done = store::mark(&mut state, archive, pool, groups, table, owners, history);
+            outcome_reply(state, done)
+        }
+        Word::Back => {
+            let done = store::rollback(
+                &mut state, archive, pool, groups, table, owners, history, first,
+            );
+            outcome_reply(state, done)
+        }
+        Word::Advance => {
+            let done = store::advance(
+                &mut state, archive, pool, groups, table, owners, history, first,
+            );
+            outcome_reply(state, done)
+        }
+        Word::Counts => {
+            let counts = store::counts(&state, archive, pool, groups, table, owners, history);
+            match counts {
+                Ok(got) => Reply {
+                    state,
+                    refusal: 0,
+                    shown: Shown::Counts(got.live, got.pages),
+                },
+                Err(refusal) => Reply {
+                    state,
+                    refusal: u32::from(refusal),
+                    shown: Shown::Counts(0, 0),
+                },
+            }
+        }
     }
 }

@@ -52,7 +52,8 @@ pub fn refusal_number<T>(done: &Result<T, Refusal>) -> u32
     }
 }
 
-// How many bytes of each piece of lent memory a store needs. Where refusal is not 0, every size is 0.
+// How many bytes of each piece of lent memory a store needs. Where refusal is not 0, every size is 0. (A number, and no Result about the sizes: C gets
+// it whole.)
 #[repr(C)]
 #[derive(Clone, Copy)]
 pub struct Need {

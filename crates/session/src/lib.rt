@@ -75,7 +75,7 @@ fn ask(started: bool, line: &[u8]) -> Result<Record, Refusal>
     Ok(entry)
 }
 
-// Whether a reset was accepted, now that a record got a refusal or 0.
+// Whether a reset was accepted, now that a record got a refusal or 0. (Any number, as `started_after` takes it.)
 #[tactic(auto, unfolding(crate::specs::Between::started_after))]
 fn has_started(started: bool, refusal: u32) -> bool
     ensures { result ≡ started_after started refusal }

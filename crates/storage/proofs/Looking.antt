@@ -4,22 +4,17 @@ use mathlib.Core.Logic.{◌≢◌}
 use Prim.Native.Nat.{ℕ}
 use native.Mathlib.Decide.{ℕ_discrete}
 use Rattle.rules.specs.Settings.{Pieces, elements}
-use mathlib.Core.List.{List}
-use Rattle.rules.specs.Call.{Call, Answer, Origin, Write, number_in, refused}
-use Rattle.rules.specs.Call.Answer.{outcome, reading, filling}
+use Rattle.rules.specs.Call.{Call, Answer, refused}
+use Rattle.rules.specs.Call.Answer.{outcome}
 use Rattle.rules.specs.Call.Look.{LINE_REFUSAL}
-use Rattle.rules.specs.Call.Change.{WRITE, ROLLBACK, ADVANCE}
-use Rattle.rules.specs.Call.Act.{READ, LOOK, CHANGE}
-use Rattle.rules.specs.Call.Call.{ON, WRITE_BLOCK}
+use Rattle.rules.specs.Call.Act.{LOOK}
+use Rattle.rules.specs.Call.Call.{ON}
 use Rattle.rules.specs.Seen.{accepted}
 use Rattle.rules.specs.Refusal.{refusal, act_refusal, lacks, line_refusal, facts_by}
 use Rattle.rules.specs.Promise.{form_of, Promise, Accepted, settings_for, facts_of, seen_of}
 use Rattle.rules.proofs.Promise.{refuse, accept}
-use Rattle.rules.proofs.Refusals.{kept-refused}
-use Rattle.storage.specs.declared.State.{State}
 use Rattle.storage.specs.Storage.{Storage, settings_in, registers_in, lengths_in, store}
 use Rattle.storage.specs.Admit.{admitted}
-use Rattle.storage.specs.Clauses.{Reads, Writes, WritesBlock, RollsBack, Advances}
 
 -- The refusal of a call, by the storage alone.
 abbrev pub refusal_of : Storage → Call → ℕ
@@ -55,29 +50,3 @@ companion x l r p are given = go (ℕ_discrete r 0)
         subst (λ (n : ℕ). Promise store (ON (LOOK (LINE_REFUSAL l))) x (outcome n) x) (sym z)
         (let_through x (ON (LOOK (LINE_REFUSAL l))) r told z refl (record { kept = refl; answer = λ q. refl }) refl refl)
     go (no z) = turned_down x (ON (LOOK (LINE_REFUSAL l))) r told z
-
--- A refused call that may change the cache left the state as it was, whatever is given for it.
-state-kept : (F : Storage → Type 0) (x t : Storage) → t ≡ x → F t → F (record { state = x.state; memory = t.memory })
-state-kept F x t e h = subst (λ (s : State). F (record { state = s; memory = t.memory })) (ap (λ (y : Storage). y.state) e) h
-
-pub read-kept : (x t : Storage) (w a n v : ℕ) (o : Origin) → Reads x w a n v o t → n ≢ 0 → Reads x w a n v o (record { state = x.state; memory = t.memory })
-unfolding number_in
-read-kept x t w a n v o h z = state-kept (λ y. Reads x w a n v o y) x t (kept-refused store (ON (READ w a)) x t (reading n v o) h.0 z) h
-
-pub write-kept : (x t : Storage) (w a v n : ℕ) → Writes x w a v n t → n ≢ 0 → Writes x w a v n (record { state = x.state; memory = t.memory })
-unfolding number_in
-write-kept x t w a v n h z = state-kept (λ y. Writes x w a v n y) x t (kept-refused store (ON (CHANGE (WRITE w a v))) x t (outcome n) h.0 z) h
-
-pub block-kept : (x t : Storage) (items : List Write) (list left : List ℕ) (n : ℕ) → WritesBlock x items list n left t → n ≢ 0
-    → WritesBlock x items list n left (record { state = x.state; memory = t.memory })
-unfolding number_in
-block-kept x t items list left n h z =
-    state-kept (λ y. WritesBlock x items list n left y) x t (kept-refused store (WRITE_BLOCK items list) x t (filling n left) h.0 z) h
-
-pub rollback-kept : (x t : Storage) (k n : ℕ) → RollsBack x k n t → n ≢ 0 → RollsBack x k n (record { state = x.state; memory = t.memory })
-unfolding number_in
-rollback-kept x t k n h z = state-kept (λ y. RollsBack x k n y) x t (kept-refused store (ON (CHANGE (ROLLBACK k))) x t (outcome n) h.0 z) h
-
-pub advance-kept : (x t : Storage) (k n : ℕ) → Advances x k n t → n ≢ 0 → Advances x k n (record { state = x.state; memory = t.memory })
-unfolding number_in
-advance-kept x t k n h z = state-kept (λ y. Advances x k n y) x t (kept-refused store (ON (CHANGE (ADVANCE k))) x t (outcome n) h.0 z) h

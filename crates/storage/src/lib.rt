@@ -29,7 +29,7 @@ pub struct Registers {
     pub used: u32,
 }
 
-// The state may hold anything: each call tests it first. Programs pass it by value; the calls themselves take the registers by value and
+// The state may hold anything: each call tests it first. `store` takes it by reference; the calls themselves take the registers by value and
 // the cache's arrays where they lie.
 #[repr(C)]
 #[derive(Clone, Copy)]

@@ -1,4 +1,4 @@
-// The store: every call of document 01, in memory that the caller lends, on a state that goes in and comes back by value. RESET and CHECK are
+// The store: every call of document 01, in memory that the caller lends, on a state that the caller keeps. RESET and CHECK are
 // done here; the other calls are those of `access`, `writing`, `write_blocks` and `marks`, which take the cache's arrays where they lie.
 #![tactic(auto)]
 
@@ -17,9 +17,9 @@ ghost use Rattle.storage.specs.Steps.{fresh_state};
 ghost use Rattle.storage.specs.Clauses.{Resets, Writes, WritesBlock, Reads, Marks, RollsBack, Advances};
 ghost use Rattle.write_blocks.specs.Items.{items_of};
 ghost use Rattle.marks.specs.Counting.{counts_in};
-ghost use Rattle.store.specs.Reading.{value_in, origin_in, state_in};
+ghost use Rattle.access.specs.Reading.{value_in, origin_in};
 
-use cache::Cache;
+pub use access::Reading;
 pub use marks::Counted;
 use pages::Ring;
 pub use rules::{Need, Refusal, refusal_number, sizes};
@@ -27,7 +27,8 @@ pub use storage::{Registers, State};
 pub use versions::Origin;
 use written::Shape;
 
-// The memory that a caller lends, piece by piece, as one value.
+// The memory that a caller lends, piece by piece, as one value. The calls take the pieces one by one: each says by `&mut` which it writes, and C lends
+// it the others to read only.
 #[derive(Drop)]
 pub struct Memory<'a> {
     pub archive: &'a mut [u8],
@@ -36,14 +37,6 @@ pub struct Memory<'a> {
     pub table: &'a mut [u16],
     pub owners: &'a mut [u32],
     pub history: &'a mut [u16],
-}
-
-// The state after a read, the value and its origin.
-#[derive(Clone, Copy)]
-pub struct Reading {
-    pub state: State,
-    pub value: u32,
-    pub origin: Origin,
 }
 
 // The blank state, which holds no store: L is 0. Every call but RESET refuses it with 5.
@@ -75,7 +68,7 @@ fn fresh(lines: u32, frames: u32, pages: u32) -> State
 
 // RESET: an empty store with these settings, whatever the state and the lent memory held.
 pub fn reset(
-    state: State,
+    state: &mut State,
     archive: &mut [u8],
     pool: &[u8],
     groups: &mut [u32],
@@ -85,11 +78,11 @@ pub fn reset(
     lines: u32,
     frames: u32,
     pages: u32,
-) -> Result<State, Refusal>
+) -> Result<(), Refusal>
     ensures { Resets
-        (storage_of state archive.old pool.now groups.old table.now owners.old history.old)
+        (storage_of state.old archive.old pool.now groups.old table.now owners.old history.old)
         lines frames pages (refusal_in result)
-        (storage_of (result_unwrap_or result state) archive.new pool.now groups.new table.now owners.new history.new) }
+        (storage_of state.new archive.new pool.now groups.new table.now owners.new history.new) }
 {
     let lengths = storage::measure(archive, pool, groups, table, owners, history);
     storage::asked_refusal(lines, frames, pages, lengths)?;
@@ -101,12 +94,13 @@ pub fn reset(
     };
     written::reset(groups, history, shape);
     pages::flags::clear(owners, pages, lines);
-    Ok(fresh(lines, frames, pages))
+    *state = fresh(lines, frames, pages);
+    Ok(())
 }
 
 // WRITE.
 pub fn write(
-    state: State,
+    state: &mut State,
     archive: &[u8],
     pool: &mut [u8],
     groups: &mut [u32],
@@ -116,25 +110,19 @@ pub fn write(
     width: u32,
     address: u32,
     value: u32,
-) -> Result<State, Refusal>
+) -> Result<(), Refusal>
     ensures { Writes
-        (storage_of state archive.now pool.old groups.old table.old owners.old history.now)
+        (storage_of state.old archive.now pool.old groups.old table.old owners.old history.now)
         width address value (refusal_in result)
-        (storage_of (result_unwrap_or result state) archive.now pool.new groups.new table.new owners.new history.now) }
+        (storage_of state.new archive.now pool.new groups.new table.new owners.new history.now) }
 {
-    let cache = state.cache;
-    let mut held = cache.held;
-    let mut origins = cache.origins;
-    let mut valid = cache.valid;
-    let mut bytes = cache.bytes;
-    let mut last = cache.last;
-    let used = writing::write(
+    state.registers.used = writing::write(
         state.registers,
-        &mut held,
-        &mut origins,
-        &mut valid,
-        &mut bytes,
-        &mut last,
+        &mut state.cache.held,
+        &mut state.cache.origins,
+        &mut state.cache.valid,
+        &mut state.cache.bytes,
+        &mut state.cache.last,
         archive,
         pool,
         groups,
@@ -145,24 +133,12 @@ pub fn write(
         address,
         value,
     )?;
-    let mut registers = state.registers;
-    registers.used = used;
-    let after = Cache {
-        held,
-        origins,
-        valid,
-        bytes,
-        last,
-    };
-    Ok(State {
-        registers,
-        cache: after,
-    })
+    Ok(())
 }
 
 // A block of writes: three numbers an item, its width, address and value.
 pub fn write_block(
-    state: State,
+    state: &mut State,
     archive: &[u8],
     pool: &mut [u8],
     groups: &mut [u32],
@@ -171,25 +147,19 @@ pub fn write_block(
     history: &[u16],
     items: &[u32],
     answers: &mut [u32],
-) -> Result<State, Refusal>
+) -> Result<(), Refusal>
     ensures { WritesBlock
-        (storage_of state archive.now pool.old groups.old table.old owners.old history.now)
+        (storage_of state.old archive.now pool.old groups.old table.old owners.old history.now)
         (items_of items.now) answers.old (refusal_in result) answers.new
-        (storage_of (result_unwrap_or result state) archive.now pool.new groups.new table.new owners.new history.now) }
+        (storage_of state.new archive.now pool.new groups.new table.new owners.new history.now) }
 {
-    let cache = state.cache;
-    let mut held = cache.held;
-    let mut origins = cache.origins;
-    let mut valid = cache.valid;
-    let mut bytes = cache.bytes;
-    let mut last = cache.last;
-    let used = write_blocks::write_block(
+    state.registers.used = write_blocks::write_block(
         state.registers,
-        &mut held,
-        &mut origins,
-        &mut valid,
-        &mut bytes,
-        &mut last,
+        &mut state.cache.held,
+        &mut state.cache.origins,
+        &mut state.cache.valid,
+        &mut state.cache.bytes,
+        &mut state.cache.last,
         archive,
         pool,
         groups,
@@ -199,24 +169,12 @@ pub fn write_block(
         items,
         answers,
     )?;
-    let mut registers = state.registers;
-    registers.used = used;
-    let after = Cache {
-        held,
-        origins,
-        valid,
-        bytes,
-        last,
-    };
-    Ok(State {
-        registers,
-        cache: after,
-    })
+    Ok(())
 }
 
 // READ.
 pub fn read(
-    state: State,
+    state: &mut State,
     archive: &[u8],
     pool: &[u8],
     groups: &[u32],
@@ -227,23 +185,17 @@ pub fn read(
     address: u32,
 ) -> Result<Reading, Refusal>
     ensures { Reads
-        (storage_of state archive.now pool.now groups.now table.now owners.now history.now)
+        (storage_of state.old archive.now pool.now groups.now table.now owners.now history.now)
         width address (refusal_in result) (value_in result) (origin_in result)
-        (storage_of (state_in state result) archive.now pool.now groups.now table.now owners.now history.now) }
+        (storage_of state.new archive.now pool.now groups.now table.now owners.now history.now) }
 {
-    let cache = state.cache;
-    let mut held = cache.held;
-    let mut origins = cache.origins;
-    let mut valid = cache.valid;
-    let mut bytes = cache.bytes;
-    let mut last = cache.last;
-    let reading = access::read(
+    access::read(
         state.registers,
-        &mut held,
-        &mut origins,
-        &mut valid,
-        &mut bytes,
-        &mut last,
+        &mut state.cache.held,
+        &mut state.cache.origins,
+        &mut state.cache.valid,
+        &mut state.cache.bytes,
+        &mut state.cache.last,
         archive,
         pool,
         groups,
@@ -252,29 +204,12 @@ pub fn read(
         history,
         width,
         address,
-    )?;
-    let registers = state.registers;
-    let after = Cache {
-        held,
-        origins,
-        valid,
-        bytes,
-        last,
-    };
-    let origin = reading.origin;
-    Ok(Reading {
-        state: State {
-            registers,
-            cache: after,
-        },
-        value: reading.value,
-        origin,
-    })
+    )
 }
 
 // LINE.
 pub fn line<'a>(
-    state: State,
+    state: &State,
     archive: &'a [u8],
     pool: &'a [u8],
     groups: &[u32],
@@ -284,9 +219,9 @@ pub fn line<'a>(
     line: u32,
 ) -> &'a [u8]
     ensures { Promise store (ON (LOOK (LINE line)))
-        (storage_of state archive.now pool.now groups.now table.now owners.now history.now)
+        (storage_of state.now archive.now pool.now groups.now table.now owners.now history.now)
         (lending result.now)
-        (storage_of state archive.now pool.now groups.now table.now owners.now history.now) }
+        (storage_of state.now archive.now pool.now groups.now table.now owners.now history.now) }
 {
     access::line(
         state.registers,
@@ -302,7 +237,7 @@ pub fn line<'a>(
 
 // LINE's companion.
 pub fn line_refusal(
-    state: State,
+    state: &State,
     archive: &[u8],
     pool: &[u8],
     groups: &[u32],
@@ -312,9 +247,9 @@ pub fn line_refusal(
     line: u32,
 ) -> Result<(), Refusal>
     ensures { Promise store (ON (LOOK (LINE_REFUSAL line)))
-        (storage_of state archive.now pool.now groups.now table.now owners.now history.now)
+        (storage_of state.now archive.now pool.now groups.now table.now owners.now history.now)
         (outcome (refusal_in result))
-        (storage_of state archive.now pool.now groups.now table.now owners.now history.now) }
+        (storage_of state.now archive.now pool.now groups.now table.now owners.now history.now) }
 {
     access::line_refusal(
         state.registers,
@@ -330,20 +265,20 @@ pub fn line_refusal(
 
 // MARK.
 pub fn mark(
-    state: State,
+    state: &mut State,
     archive: &[u8],
     pool: &[u8],
     groups: &[u32],
     table: &[u16],
     owners: &[u32],
     history: &[u16],
-) -> Result<State, Refusal>
+) -> Result<(), Refusal>
     ensures { Marks
-        (storage_of state archive.now pool.now groups.now table.now owners.now history.now)
+        (storage_of state.old archive.now pool.now groups.now table.now owners.now history.now)
         (refusal_in result)
-        (storage_of (result_unwrap_or result state) archive.now pool.now groups.now table.now owners.now history.now) }
+        (storage_of state.new archive.now pool.now groups.now table.now owners.now history.now) }
 {
-    let registers = marks::mark(
+    state.registers = marks::mark(
         state.registers,
         archive,
         pool,
@@ -352,13 +287,12 @@ pub fn mark(
         owners,
         history,
     )?;
-    let cache = state.cache;
-    Ok(State { registers, cache })
+    Ok(())
 }
 
 // ROLLBACK.
 pub fn rollback(
-    state: State,
+    state: &mut State,
     archive: &[u8],
     pool: &[u8],
     groups: &mut [u32],
@@ -366,19 +300,16 @@ pub fn rollback(
     owners: &[u32],
     history: &mut [u16],
     k: u32,
-) -> Result<State, Refusal>
+) -> Result<(), Refusal>
     ensures { RollsBack
-        (storage_of state archive.now pool.now groups.old table.now owners.now history.old)
+        (storage_of state.old archive.now pool.now groups.old table.now owners.now history.old)
         k (refusal_in result)
-        (storage_of (result_unwrap_or result state) archive.now pool.now groups.new table.now owners.now history.new) }
+        (storage_of state.new archive.now pool.now groups.new table.now owners.now history.new) }
 {
-    let mut cache = state.cache;
-    let origins = cache.origins;
-    let mut valid = cache.valid;
-    let registers = marks::rollback(
+    state.registers = marks::rollback(
         state.registers,
-        &origins,
-        &mut valid,
+        &state.cache.origins,
+        &mut state.cache.valid,
         archive,
         pool,
         groups,
@@ -387,13 +318,12 @@ pub fn rollback(
         history,
         k,
     )?;
-    cache.valid = valid;
-    Ok(State { registers, cache })
+    Ok(())
 }
 
 // ADVANCE.
 pub fn advance(
-    state: State,
+    state: &mut State,
     archive: &mut [u8],
     pool: &[u8],
     groups: &mut [u32],
@@ -401,17 +331,15 @@ pub fn advance(
     owners: &mut [u32],
     history: &mut [u16],
     k: u32,
-) -> Result<State, Refusal>
+) -> Result<(), Refusal>
     ensures { Advances
-        (storage_of state archive.old pool.now groups.old table.now owners.old history.old)
+        (storage_of state.old archive.old pool.now groups.old table.now owners.old history.old)
         k (refusal_in result)
-        (storage_of (result_unwrap_or result state) archive.new pool.now groups.new table.now owners.new history.new) }
+        (storage_of state.new archive.new pool.now groups.new table.now owners.new history.new) }
 {
-    let mut cache = state.cache;
-    let mut origins = cache.origins;
-    let registers = marks::advance(
+    state.registers = marks::advance(
         state.registers,
-        &mut origins,
+        &mut state.cache.origins,
         archive,
         pool,
         groups,
@@ -420,13 +348,12 @@ pub fn advance(
         history,
         k,
     )?;
-    cache.origins = origins;
-    Ok(State { registers, cache })
+    Ok(())
 }
 
 // COUNTS.
 pub fn counts(
-    state: State,
+    state: &State,
     archive: &[u8],
     pool: &[u8],
     groups: &[u32],
@@ -435,9 +362,9 @@ pub fn counts(
     history: &[u16],
 ) -> Result<Counted, Refusal>
     ensures { Promise store (ON (LOOK COUNTS))
-        (storage_of state archive.now pool.now groups.now table.now owners.now history.now)
+        (storage_of state.now archive.now pool.now groups.now table.now owners.now history.now)
         (counts_in result)
-        (storage_of state archive.now pool.now groups.now table.now owners.now history.now) }
+        (storage_of state.now archive.now pool.now groups.now table.now owners.now history.now) }
 {
     marks::counts(
         state.registers,
@@ -504,7 +431,7 @@ fn is_well(
 
 // CHECK: yes exactly if the storage is well-formed.
 pub fn check(
-    state: State,
+    state: &State,
     archive: &[u8],
     pool: &[u8],
     groups: &[u32],
@@ -513,12 +440,12 @@ pub fn check(
     history: &[u16],
 ) -> Result<bool, Refusal>
     ensures { Promise store CHECK
-        (storage_of state archive.now pool.now groups.now table.now owners.now history.now)
+        (storage_of state.now archive.now pool.now groups.now table.now owners.now history.now)
         (verdict (refusal_in result) (result_unwrap_or result false))
-        (storage_of state archive.now pool.now groups.now table.now owners.now history.now) }
+        (storage_of state.now archive.now pool.now groups.now table.now owners.now history.now) }
 {
     let lengths = storage::measure(archive, pool, groups, table, owners, history);
     storage::admit(state.registers, lengths)?;
-    let yes = is_well(state, archive, pool, groups, table, owners, history);
+    let yes = is_well(*state, archive, pool, groups, table, owners, history);
     Ok(yes)
 }

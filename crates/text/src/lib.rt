@@ -78,7 +78,8 @@ pub fn part_end(bytes: &[u8], from: usize, separator: u8) -> usize
 // The most bytes of a line that are looked at: one more than a line may have.
 const LOOKED: usize = 81;
 
-// The first bytes of a line that is not whole yet: as many as are looked at. There is room for a line feed behind them.
+// The first bytes of a line that is not whole yet: as many as are looked at. There is room for a line feed behind them. (An array and a count, since
+// nothing here allocates; any contents will do, so no invariant ties them.)
 #[derive(Clone, Copy)]
 pub struct Reader {
     pub kept: [u8; 82],

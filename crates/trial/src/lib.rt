@@ -11,19 +11,20 @@ ghost use Rattle.rules.specs.Refusal.{asked_refusal};
 ghost use Rattle.rules.specs.Plain.{answers_from, fresh_model};
 ghost use Rattle.rules.specs.Refusals.{refusal_in};
 ghost use Rattle.store.specs.Shown.{lengths_of};
-ghost use Rattle.store.specs.Reading.{value_in, origin_in};
+ghost use Rattle.access.specs.Reading.{value_in, origin_in};
 ghost use Rattle.store.specs.Memory.{lent_in, SamePieces};
 
 use store::{Memory, Reading, Refusal, State};
 
-// What a trial's calls gave, one after the other; a refused one leaves the state as it was.
+// What a trial's calls gave, one after the other, and the state that they left.
 #[derive(Clone, Copy)]
 pub struct Trial {
-    pub reset: Result<State, Refusal>,
-    pub before: Result<State, Refusal>,
-    pub mark: Result<State, Refusal>,
-    pub after: Result<State, Refusal>,
-    pub back: Result<State, Refusal>,
+    pub state: State,
+    pub reset: Result<(), Refusal>,
+    pub before: Result<(), Refusal>,
+    pub mark: Result<(), Refusal>,
+    pub after: Result<(), Refusal>,
+    pub back: Result<(), Refusal>,
     pub read: Result<Reading, Refusal>,
 }
 
@@ -56,24 +57,23 @@ pub fn take_back(
     let table = &mut *memory.table;
     let owners = &mut *memory.owners;
     let history = &mut *memory.history;
+    let mut s = state;
     let reset = store::reset(
-        state, archive, pool, groups, table, owners, history, lines, frames, pages,
+        &mut s, archive, pool, groups, table, owners, history, lines, frames, pages,
     );
-    let s = reset.unwrap_or(state);
     let before = store::write(
-        s, archive, pool, groups, table, owners, history, 4, address, first,
+        &mut s, archive, pool, groups, table, owners, history, 4, address, first,
     );
-    let s = before.unwrap_or(s);
-    let mark = store::mark(s, archive, pool, groups, table, owners, history);
-    let s = mark.unwrap_or(s);
+    let mark = store::mark(&mut s, archive, pool, groups, table, owners, history);
     let after = store::write(
-        s, archive, pool, groups, table, owners, history, 4, address, second,
+        &mut s, archive, pool, groups, table, owners, history, 4, address, second,
     );
-    let s = after.unwrap_or(s);
-    let back = store::rollback(s, archive, pool, groups, table, owners, history, 1);
-    let s = back.unwrap_or(s);
-    let read = store::read(s, archive, pool, groups, table, owners, history, 4, address);
+    let back = store::rollback(&mut s, archive, pool, groups, table, owners, history, 1);
+    let read = store::read(
+        &mut s, archive, pool, groups, table, owners, history, 4, address,
+    );
     Trial {
+        state: s,
         reset,
         before,
         mark,

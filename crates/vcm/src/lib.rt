@@ -72,7 +72,7 @@ pub extern "C" fn vcm_blank() -> State
 // RESET: writes archive, groups, the flags behind the owners, and history.
 #[unsafe(no_mangle)]
 pub extern "C" fn vcm_raw_reset(
-    state: State,
+    mut state: State,
     archive: &mut [u8],
     pool: &[u8],
     groups: &mut [u32],
@@ -88,15 +88,11 @@ pub extern "C" fn vcm_raw_reset(
         lines frames pages result.refusal
         (storage_of result.state archive.new pool.now groups.new table.now owners.new history.new) }
 {
-    match store::reset(
-        state, archive, pool, groups, table, owners, history, lines, frames, pages,
-    ) {
-        Ok(state) => Outcome { state, refusal: 0 },
-        Err(refusal) => Outcome {
-            state,
-            refusal: u32::from(refusal),
-        },
-    }
+    let done = store::reset(
+        &mut state, archive, pool, groups, table, owners, history, lines, frames, pages,
+    );
+    let refusal = store::refusal_number(&done);
+    Outcome { state, refusal }
 }
 
 // WRITE: writes the registers, the cache, pool, groups, table and owners.
@@ -408,7 +404,7 @@ pub extern "C" fn vcm_raw_check(
 ) -> Verdict
     ensures { ChecksAs (storage_of state archive.now pool.now groups.now table.now owners.now history.now) result.refusal result.yes }
 {
-    match store::check(state, archive, pool, groups, table, owners, history) {
+    match store::check(&state, archive, pool, groups, table, owners, history) {
         Ok(yes) => Verdict {
             refusal: 0,
             yes: u32::from(yes),

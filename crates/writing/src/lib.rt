@@ -1,5 +1,5 @@
-// WRITE, on the registers by value and the cache's arrays where they lie, so that nothing of the cache is copied. `store` has it on a whole state by
-// value, `write_blocks` makes many in one call, `vcm` exports it.
+// WRITE, on the registers by value and the cache's arrays where they lie, so that nothing of the cache is copied. `store` has it on a whole state,
+// `write_blocks` makes many in one call, `vcm` exports it.
 #![tactic(auto)]
 
 ghost use Rattle.std.specs.Prelude.{◌≡◌, ◌*◌, ◌/◌, ◌%◌};

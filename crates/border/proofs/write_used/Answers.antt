@@ -4,4 +4,4 @@ use Rattle.border.proofs.Lent.{used-stored}
 use Rattle.border.proofs.write_used.Goals as goal
 
 pub returns : goal.returns
-returns c = used-stored _ _ c.has_all.ensures _ refl
+returns c = used-stored _ _ c.told-lent _ refl

@@ -6,7 +6,7 @@ use Rattle.replies.proofs.call.Goals as goal
 
 pub returns-in-Reset : goal.returns-in-Reset
 returns-in-Reset c =
-    search (called-reset, c.in-Reset.is, c.number-first.ensures, c.number-second.ensures, c.number-third.ensures, c.reset.ensures.0, c.outcome_reply.ensures.0, c.outcome_reply.ensures.1)
+    search (called-reset, c.in-Reset.is, c.number-first.ensures, c.number-second.ensures, c.number-third.ensures, c.reset-done.ensures.0, c.outcome_reply.ensures.0, c.outcome_reply.ensures.1)
 
 pub returns-in-Ok-clause-promise : goal.returns-in-Ok-clause-promise
 unfolding answer_of
@@ -19,18 +19,18 @@ returns-in-Err-clause-promise c =
 
 pub returns-in-Write : goal.returns-in-Write
 returns-in-Write c =
-    search (called-write, c.in-Write.is, c.number-first.ensures, c.number-second.ensures, c.number-third.ensures, c.write.ensures.0, c.outcome_reply-in-Write.ensures.0, c.outcome_reply-in-Write.ensures.1)
+    search (called-write, c.in-Write.is, c.number-first.ensures, c.number-second.ensures, c.number-third.ensures, c.write-done.ensures.0, c.outcome_reply-in-Write.ensures.0, c.outcome_reply-in-Write.ensures.1)
 
 pub returns-in-Mark : goal.returns-in-Mark
-returns-in-Mark c = search (called-mark, c.in-Mark.is, c.mark.ensures.0, c.outcome_reply-in-Mark.ensures.0, c.outcome_reply-in-Mark.ensures.1)
+returns-in-Mark c = search (called-mark, c.in-Mark.is, c.mark-done.ensures.0, c.outcome_reply-in-Mark.ensures.0, c.outcome_reply-in-Mark.ensures.1)
 
 pub returns-in-Back : goal.returns-in-Back
 returns-in-Back c =
-    search (called-back, c.in-Back.is, c.number-first.ensures, c.rollback.ensures.0, c.outcome_reply-in-Back.ensures.0, c.outcome_reply-in-Back.ensures.1)
+    search (called-back, c.in-Back.is, c.number-first.ensures, c.rollback-done.ensures.0, c.outcome_reply-in-Back.ensures.0, c.outcome_reply-in-Back.ensures.1)
 
 pub returns-in-Advance : goal.returns-in-Advance
 returns-in-Advance c =
-    search (called-advance, c.in-Advance.is, c.number-first.ensures, c.advance.ensures.0, c.outcome_reply-in-Advance.ensures.0, c.outcome_reply-in-Advance.ensures.1)
+    search (called-advance, c.in-Advance.is, c.number-first.ensures, c.advance-done.ensures.0, c.outcome_reply-in-Advance.ensures.0, c.outcome_reply-in-Advance.ensures.1)
 
 pub returns-in-Ok-counts-clause-promise : goal.returns-in-Ok-counts-clause-promise
 unfolding answer_of

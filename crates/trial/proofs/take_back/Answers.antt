@@ -6,10 +6,6 @@ use Rattle.trial.proofs.take_back.Goals as goal
 
 pub returns-clause-answers : goal.returns-clause-answers
 returns-clause-answers c =
-    let told = rw (← c.unwrap_or-s.ensures) at c.reset-reset.ensures.0 in
-    let before = rw (← c.unwrap_or-s-2.ensures) at c.write-before.ensures.0 in
-    let mark = rw (← c.unwrap_or-s-3.ensures) at c.mark-mark.ensures.0 in
-    let after = rw (← c.unwrap_or-s-4.ensures) at c.write-after.ensures.0 in
-    let back = rw (← c.unwrap_or-s-5.ensures) at c.rollback-back.ensures.0 in
-    let calls = next before (next mark (next after (next back (next c.read-read.ensures.0 stop)))) in
+    let calls = next c.write-before.ensures.0 (next c.mark-mark.ensures.0 (next c.write-after.ensures.0 (next c.rollback-back.ensures.0 (next c.read-read.ensures.0 stop)))) in
+    let told = c.reset-reset.ensures.0 in
     (store-refusal _ _ _ _ told, λ z. store-answers _ _ _ _ _ _ _ z told calls, λ z. taken_back _ _ _ _ _ _ _ _ _ _ _ _ (store-answers _ _ _ _ _ _ _ z told calls))

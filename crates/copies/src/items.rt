@@ -31,7 +31,7 @@ impl fmt::Display for Tried {
 }
 
 // An answer as the lent list of a block holds it: the refusal's number, or 0.
-pub fn number_of(outcome: Result<(), Refusal>) -> u32 {
+fn number_of(outcome: Result<(), Refusal>) -> u32 {
     match outcome {
         Ok(()) => 0,
         Err(refusal) => refusal as u32,

@@ -10,7 +10,7 @@ mod recent;
 mod refusals;
 
 pub use answers::{Answer, Origin, Said};
-pub use items::{Tried, number_of};
+pub use items::Tried;
 pub use lengths::Lengths;
 pub use memory::ROOM;
 use memory::{copy, size};

@@ -33,12 +33,11 @@ pub enum Refusal {
     Early = 3,
 }
 
-impl Refusal {
-    // Its number in an answer.
-    pub fn number(self) -> u32
-        ensures { result ≡ refusal_number self }
-    {
-        self as u32
+impl From<Refusal> for u32 {
+    ghost from_gives = { λ refusal n. n ≡ refusal_number refusal };
+
+    fn from(refusal: Refusal) -> u32 {
+        refusal as u32
     }
 }
 

@@ -131,7 +131,7 @@ fn answer_lines(
         let entry = match ask(started, &chunk[used..end]) {
             Ok(entry) => entry,
             Err(refused) => {
-                let turned = refused.number();
+                let turned = u32::from(refused);
                 filled = replies::put_answer(out, filled, turned, Shown::Nothing);
                 tally = tally::tallied(tally, turned);
                 used = end + 1;

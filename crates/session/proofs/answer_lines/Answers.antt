@@ -22,7 +22,7 @@ loop-filled-preserved-in-Err c =
             c.loop-filled-test.true,
             c.if-end-used.false,
             c.in-Err.ensures,
-            c.number-turned.ensures,
+            c.from-turned.ensures,
             c.put_answer-filled.ensures,
             c.tallied-tally.ensures,
           );

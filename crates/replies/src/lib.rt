@@ -4,17 +4,19 @@
 ghost use Rattle.std.specs.Prelude.{◌≡◌, ◌∷◌, ◌+◌, ◌≤◌, length};
 ghost use Rattle.text.specs.Numbers.{decimal};
 ghost use Rattle.text.specs.Output.{Puts};
-ghost use Rattle.rules.specs.Call.Answer.{outcome};
+ghost use Rattle.rules.specs.Call.Answer.{outcome, reading};
 ghost use Rattle.rules.specs.Refusals.{refusal_in};
 ghost use Rattle.records.specs.Shown.{numbers_of};
 ghost use Rattle.store.specs.Shown.{shown_origin, kept, Promises};
+ghost use Rattle.access.specs.Reading.{value_in, origin_in};
+ghost use Rattle.marks.specs.Counting.{counts_in};
 ghost use Rattle.store.specs.Memory.{lent_in, SamePieces};
 ghost use Rattle.replies.specs.Calls.{call_of};
 ghost use Rattle.replies.specs.Answers.{origin_text, values_text, answer_line, end_line, longest, longest_end};
 ghost use Rattle.replies.specs.Lines.{answer_of};
 
 use records::{Record, Word};
-use store::{Memory, Origin, Refusal, State};
+use store::{Counted, Memory, Origin, Reading, Refusal, State};
 
 // What stands behind `ok`.
 #[derive(Clone, Copy)]
@@ -116,6 +118,38 @@ fn outcome_reply(state: State, done: Result<(), Refusal>) -> Reply
     }
 }
 
+// What READ gave; refused, its value is nought and its origin the archive.
+fn read_reply(state: State, done: Result<Reading, Refusal>) -> Reply
+    ensures { (result.state ≡ state) × (answer_of result.refusal result.shown ≡ reading (refusal_in done) (value_in done) (origin_in done)) }
+{
+    let refusal = store::refusal_number(&done);
+    let shown = match done {
+        Ok(got) => Shown::Read(got.value, got.origin),
+        Err(_) => Shown::Read(0, Origin::Archive),
+    };
+    Reply {
+        state,
+        refusal,
+        shown,
+    }
+}
+
+// What COUNTS gave; refused, both numbers are nought.
+fn counts_reply(state: State, done: Result<Counted, Refusal>) -> Reply
+    ensures { (result.state ≡ state) × (answer_of result.refusal result.shown ≡ counts_in done) }
+{
+    let refusal = store::refusal_number(&done);
+    let shown = match done {
+        Ok(got) => Shown::Counts(got.live, got.pages),
+        Err(_) => Shown::Counts(0, 0),
+    };
+    Reply {
+        state,
+        refusal,
+        shown,
+    }
+}
+
 // The call that a record asks for.
 pub fn call(mut state: State, memory: &mut Memory, asked: Record) -> Reply
     ensures pieces { SamePieces memory.old memory.new }
@@ -145,18 +179,7 @@ pub fn call(mut state: State, memory: &mut Memory, asked: Record) -> Reply
             let read = store::read(
                 &mut state, archive, pool, groups, table, owners, history, first, second,
             );
-            match read {
-                Ok(got) => Reply {
-                    state,
-                    refusal: 0,
-                    shown: Shown::Read(got.value, got.origin),
-                },
-                Err(refusal) => Reply {
-                    state,
-                    refusal: u32::from(refusal),
-                    shown: Shown::Read(0, Origin::Archive),
-                },
-            }
+            read_reply(state, read)
         }
         Word::Write => {
             let done = store::write(
@@ -182,18 +205,7 @@ pub fn call(mut state: State, memory: &mut Memory, asked: Record) -> Reply
         }
         Word::Counts => {
             let counts = store::counts(&state, archive, pool, groups, table, owners, history);
-            match counts {
-                Ok(got) => Reply {
-                    state,
-                    refusal: 0,
-                    shown: Shown::Counts(got.live, got.pages),
-                },
-                Err(refusal) => Reply {
-                    state,
-                    refusal: u32::from(refusal),
-                    shown: Shown::Counts(0, 0),
-                },
-            }
+            counts_reply(state, counts)
         }
     }
 }

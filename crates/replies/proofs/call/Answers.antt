@@ -1,6 +1,4 @@
 -- `replies::call` meets its contract: each record's call has the promise that the store's function ensures.
-use Rattle.versions.specs.Newest.{origin_of}
-use Rattle.replies.specs.Lines.{answer_of}
 use Rattle.replies.proofs.Calls.{called-reset, called-read, called-write, called-mark, called-back, called-advance, called-counts}
 use Rattle.replies.proofs.call.Goals as goal
 
@@ -8,14 +6,9 @@ pub returns-in-Reset : goal.returns-in-Reset
 returns-in-Reset c =
     search (called-reset, c.in-Reset.is, c.number-first.ensures, c.number-second.ensures, c.number-third.ensures, c.reset-done.ensures.0, c.outcome_reply.ensures.0, c.outcome_reply.ensures.1)
 
-pub returns-in-Ok-clause-promise : goal.returns-in-Ok-clause-promise
-unfolding answer_of
-returns-in-Ok-clause-promise c = called-read _ _ _ _ _ _ _ c.in-Read.is c.number-first.ensures c.number-second.ensures c.in-Ok.ensures.0
-
-pub returns-in-Err-clause-promise : goal.returns-in-Err-clause-promise
-unfolding answer_of origin_of
-returns-in-Err-clause-promise c =
-    rw c.from.ensures (called-read _ _ _ _ _ _ _ c.in-Read.is c.number-first.ensures c.number-second.ensures c.in-Err.ensures.0)
+pub returns-in-Read-clause-promise : goal.returns-in-Read-clause-promise
+returns-in-Read-clause-promise c =
+    rw (c.read_reply.ensures.0, c.read_reply.ensures.1) (called-read _ _ _ _ _ _ _ c.in-Read.is c.number-first.ensures c.number-second.ensures c.read-read.ensures.0)
 
 pub returns-in-Write : goal.returns-in-Write
 returns-in-Write c =
@@ -32,11 +25,6 @@ pub returns-in-Advance : goal.returns-in-Advance
 returns-in-Advance c =
     search (called-advance, c.in-Advance.is, c.number-first.ensures, c.advance-done.ensures.0, c.outcome_reply-in-Advance.ensures.0, c.outcome_reply-in-Advance.ensures.1)
 
-pub returns-in-Ok-counts-clause-promise : goal.returns-in-Ok-counts-clause-promise
-unfolding answer_of
-returns-in-Ok-counts-clause-promise c = called-counts _ _ _ _ _ c.in-Counts.is c.in-Ok-counts.ensures
-
-pub returns-in-Err-counts-clause-promise : goal.returns-in-Err-counts-clause-promise
-unfolding answer_of
-returns-in-Err-counts-clause-promise c =
-    rw c.from-in-Err-counts.ensures (called-counts _ _ _ _ _ c.in-Counts.is c.in-Err-counts.ensures)
+pub returns-in-Counts-clause-promise : goal.returns-in-Counts-clause-promise
+returns-in-Counts-clause-promise c =
+    rw (c.counts_reply.ensures.0, c.counts_reply.ensures.1) (called-counts _ _ _ _ _ c.in-Counts.is c.counts-counts.ensures)

@@ -108,6 +108,34 @@ module _ (at : ℕ) (f : ℕ → ℕ) (xs : List ℕ) where
           ∙ ap (λ (i : ℕ). f (get_or xs i 0)) (sym e))
       go (no d) ih = get_or-set_other (rewrite_from at n f xs) (at + n) p (f (get_or xs (at + n) 0)) 0 d ∙ ih (omega arith)
 
+  -- The list of a loop over count of them, at its n-th turn: one element is read, and what f gives of it is put at its place.
+  pub record RewrittenFrom (count n : ℕ) (now : List ℕ) : Type 0 where
+    pub few : n ≤ count
+    pub long : length now ≡ length xs
+    pub same : now ≡ rewrite_from at n f xs
+
+  pub from_start : (count : ℕ) → RewrittenFrom count 0 xs
+  unfolding rewrite_from
+  from_start count = record { few = omega arith; long = refl; same = refl }
+
+  pub from_next : (count n : ℕ) (now after : List ℕ) (place x v : ℕ) → RewrittenFrom count n now → n < count → place ≡ at + n → x ≡ get_or now place 0
+      → v ≡ f x → after ≡ set now place v → RewrittenFrom count (n + 1) after
+  unfolding rewrite_from
+  from_next count n now after place x v c b p d e a =
+      record {
+        few = omega arith;
+        long = ap length a ∙ (length-set now place v ∙ c.long);
+        same = a ∙ ((λ i. set (c.same i) (p i) (value i)) ∙ ap (λ (k : ℕ). rewrite_from at k f xs) (sym (add-one n)));
+      }
+    where
+      value : v ≡ f (get_or xs (at + n) 0)
+      value = e ∙ ap f (d ∙ (λ i. get_or (c.same i) (p i) 0) ∙ from-outside n (at + n) (inr (omega arith)))
+
+  pub from_end : (count n : ℕ) (now : List ℕ) → RewrittenFrom count n now → count ≤ n → now ≡ rewrite_from at count f xs
+  from_end count n now c h =
+      let all : n ≡ count = omega (arith, c.few) in
+      c.same ∙ ap (λ (k : ℕ). rewrite_from at k f xs) all
+
 -- Where the first a elements are rewritten and then the k behind them, the first a + k are.
 module _ {f : ℕ → ℕ → ℕ} {xs now : List ℕ} (a k : ℕ) (g : ℕ → ℕ) (h : Rewritten a f xs now) (same : (j x : ℕ) → j < k → g x ≡ f (a + j) x) where
   behind-value : (n : ℕ) → n < k → g (get_or now (a + n) 0) ≡ f (a + n) (get_or xs (a + n) 0)
@@ -180,17 +208,9 @@ filled-part v at m n xs ys d b e =
     ∙ ap (λ (k : ℕ). rewrite k (λ _ _. v) (take m (drop at xs))) (length-take-le m (drop at xs) (omega (arith, length-drop at xs)))))
     ∙ ap (λ (j : ℕ). rewrite_from at j (λ _. v) xs) d
 
--- What a loop over such a part leaves, at its end.
+-- What a loop over the first ones leaves, at its end.
 pub loop-front : (m : ℕ) (xs : List ℕ) {f : ℕ → ℕ → ℕ} {now : List ℕ} {n : ℕ} → m ≤ length xs → Rewritten n f (take m xs) now → n ≤ length (take m xs)
     → length (take m xs) ≤ n → now ++ drop m xs ≡ rewrite m f xs
 loop-front m xs {f} {now} {n} b h few all =
     ap (λ (zs : List ℕ). zs ++ drop m xs) (rewrite-end m h (omega (arith, few, length-take-le m xs b)) (omega (arith, all, length-take-le m xs b)))
     ∙ rewrite-front f xs m m (omega arith) b
-
-pub loop-part : (at m place k : ℕ) (xs : List ℕ) {f : ℕ → ℕ} {now : List ℕ} {n : ℕ} → at ≡ place → m ≡ k → place + k ≤ length xs
-    → Rewritten n (λ _ x. f x) (take m (drop at xs)) now → n ≤ length (take m (drop at xs)) → length (take m (drop at xs)) ≤ n
-    → put_mid at m xs now ≡ rewrite_from place k f xs
-loop-part at m place k xs {f} {now} {n} e d b h few all =
-    let long : length (take m (drop at xs)) ≡ m = length-take-le m (drop at xs) (omega (arith, length-drop at xs)) in
-    part-rewritten at m f xs now (omega arith) (rewrite-end m h (omega (arith, few, long)) (omega (arith, all, long)))
-    ∙ ap₂ (λ (i j : ℕ). rewrite_from i j f xs) e d

@@ -1,7 +1,7 @@
 -- The collected lines' flags: what setting one, clearing all and giving a page out leave of them, and what they leave of the pages' owners.
 -- Assumes nothing.
 use mathlib.Core.Path.{◌≡◌, ◌∙◌, ap}
-use mathlib.Core.Logic.{◌≢◌}
+use mathlib.Core.Logic.{◌≢◌, inl}
 use mathlib.Core.Bool.{true, false, not}
 use mathlib.Core.List.{List}
 use Prim.Native.Nat.{ℕ, ◌+◌, ◌≤◌, ◌<◌}
@@ -11,7 +11,7 @@ use lib.ListN.{length, get_or, set, drop, length-set}
 use lib.Seq.{get_or-set_same, get_or-set_other, drop-set-lt}
 use Rattle.frames.proofs.Circle.{frame_below}
 use Rattle.written.specs.Bits.{Written}
-use Rattle.lists.proofs.Lists.{from-length, from-drop, from-inside}
+use Rattle.lists.proofs.Lists.{from-length, from-drop, from-outside, from-inside}
 use Rattle.pages.specs.Table.{needed_at, entry_of}
 use Rattle.pages.specs.Ring.{nth_page, WellRing}
 use Rattle.pages.specs.Flags.{collected_at, flagged, unflagged}
@@ -48,6 +48,10 @@ module _ (pages lines : ℕ) (owners : List ℕ) where
   pub unflagged-length : length (unflagged pages lines owners) ≡ length owners
   unfolding unflagged
   unflagged-length = from-length pages (λ _. 0) owners lines
+
+  pub unflagged-below : (p : ℕ) → p < pages → get_or (unflagged pages lines owners) p 0 ≡ get_or owners p 0
+  unfolding unflagged
+  unflagged-below p b = from-outside pages (λ _. 0) owners lines p (inl b)
 
   pub unflagged-past : (m : ℕ) → pages + lines ≤ m → drop m (unflagged pages lines owners) ≡ drop m owners
   unfolding unflagged

@@ -6,7 +6,7 @@ use Rattle.session.specs.declared.Runner.{Runner}
 use Rattle.session.specs.Transcript.{beginning}
 use Rattle.session.specs.Running.{StandsFor, Feeds}
 
--- A chunk answered: if all went well, every byte of it was fed, and there may be more.
+-- A chunk answered: if all went well, every byte of it was fed, and there is a runner to go on with.
 pub record AnswersChunk {E : Type 0} (r : Runner) (before : Lent) (chunk : Text) (result : Result Runner E) (after : Lent) : Type 0 where
   pub lengths : lengths_of after ≡ lengths_of before
   pub fed : IfOk result (λ s. (said : Text) × Feeds r before chunk said s after)

@@ -2,18 +2,49 @@
 use mathlib.Core.Path.{◌≡◌, refl, sym, ◌∙◌, ap, ap₂}
 use mathlib.Core.Bool.{Bool, true, false, cond}
 use mathlib.Core.List.{List, [], ◌∷◌, ◌++◌, append_assoc, append-nil}
-use Prim.Native.Nat.{ℕ, suc, ◌-◌, ◌≤◌, ◌<◌}
+use Prim.Native.Nat.{ℕ, suc, ◌+◌, ◌≤◌, ◌<◌}
 use native.Mathlib.Omega.{arith}
-use borrow.Author.Tests.{lt-ltb, le-ltb}
+use borrow.Author.Tests.{lt-ltb, le-ltb, eq-eqb, ne_eqb}
 use lib.Dec.{ltb, eqb, leb-suc-suc}
-use lib.ListN.{length, take, drop, length-drop}
-use lib.Seq.{take_all}
-use native.Mathlib.Decide.{dec_lt}
-use Rattle.std.proofs.Common.{Option}
-use Rattle.std.specs.Option.{unwrap_or}
-use Rattle.std.specs.List.{position, position_or_len}
-use Rattle.std.proofs.lemmas.List.Recursion.{is_position_or_len}
+use lib.ListN.{length, get_or, take, drop, drop_of_length-le}
+use lib.Seq.{drop-cons}
 use Rattle.text.specs.Parts.{Text, split, up_to}
+
+-- The scan for a separator, turn by turn: none before a place, and what is left from there.
+pub record Scanning (sep : ℕ) (text : Text) (from i : ℕ) : Type 0 where
+  pub low : from ≤ i
+  pub few : i ≤ length text
+  pub same : from + up_to sep (drop from text) ≡ i + up_to sep (drop i text)
+
+pub scanning-start : (sep : ℕ) (text : Text) (from : ℕ) → from ≤ length text → Scanning sep text from from
+scanning-start sep text from h = record { low = omega arith; few = h; same = refl }
+
+module _ {sep : ℕ} {text : Text} {from i : ℕ} (s : Scanning sep text from i) where
+  here : i < length text → drop i text ≡ get_or text i 0 ∷ drop (suc i) text
+  here h = drop-cons text i 0 h
+
+  pub scanning-found : i < length text → get_or text i 0 ≡ sep → i ≡ from + up_to sep (drop from text)
+  unfolding up_to
+  scanning-found h e =
+      let none : up_to sep (drop i text) ≡ 0 =
+      ap (up_to sep) (here h) ∙ ap (λ (t : Bool). cond t 0 (suc (up_to sep (drop (suc i) text)))) (eq-eqb (get_or text i 0) sep e)
+      in
+      omega (arith, s.same, none)
+
+  pub scanning-next : i < length text → (get_or text i 0 ≡ sep → ⊥) → Scanning sep text from (i + 1)
+  unfolding up_to
+  scanning-next h d =
+      let more : i + 1 ≡ suc i = omega arith in
+      let one : up_to sep (drop i text) ≡ suc (up_to sep (drop (suc i) text)) =
+      ap (up_to sep) (here h) ∙ ap (λ (t : Bool). cond t 0 (suc (up_to sep (drop (suc i) text)))) (ne_eqb (get_or text i 0) sep d)
+      in
+      record { low = omega (arith, s.low); few = omega arith; same = omega (arith, s.same, one, ap (λ (k : ℕ). up_to sep (drop k text)) more) }
+
+  pub scanning-end : length text ≤ i → i ≡ from + up_to sep (drop from text)
+  unfolding up_to
+  scanning-end h =
+      let none : up_to sep (drop i text) ≡ 0 = ap (up_to sep) (drop_of_length-le text {i = i} h) in
+      omega (arith, s.same, none)
 
 pub up-to-length : (sep : ℕ) (text : Text) → up_to sep text ≤ length text
 unfolding up_to
@@ -23,25 +54,6 @@ up-to-length sep (b ∷ bs) = go (up-to-length sep bs) (eqb b sep)
     go : up_to sep bs ≤ length bs → (t : Bool) → cond t 0 (suc (up_to sep bs)) ≤ suc (length bs)
     go ih true = omega arith
     go ih false = omega arith
-
--- What std's `position` says, where the separator is looked for.
-up-to-first : (sep : ℕ) (text : Text) → up_to sep text ≡ position_or_len (λ b. eqb b sep) text
-unfolding up_to
-up-to-first sep text = is_position_or_len (up_to sep) (λ b. eqb b sep) refl (λ b bs. ap (cond (eqb b sep) 0) (omega arith)) text
-
-up-to-position : (sep : ℕ) (text : Text) → unwrap_or (position (λ b. eqb b sep) text) (length text) ≡ up_to sep text
-up-to-position sep text = elim (dec_lt (up_to sep text) (length text)) as (λ _. unwrap_or (position (λ b. eqb b sep) text) (length text) ≡ up_to sep text) [
-  | yes h ↦ rw (← up-to-first sep text) (simp (lt-ltb (up_to sep text) (length text) h))
-  | no h ↦ rw (← up-to-first sep text) (simp (le-ltb (up_to sep text) (length text) (omega arith)) (omega (arith, up-to-length sep text)))
-]
-
--- in the form in which the code finds it, in what stands from a place on
-pub up-to-found : (sep : ℕ) (text : Text) (from : ℕ) (found : Option ℕ) (count : ℕ)
-    → found ≡ position (λ b. eqb b sep) (take (length text - from) (drop from text)) → count ≡ unwrap_or found (length (take (length text - from) (drop from text)))
-    → count ≡ up_to sep (drop from text)
-up-to-found sep text from found count f e =
-    let all : take (length text - from) (drop from text) ≡ drop from text = take_all (length text - from) (drop from text) (omega (arith, length-drop from text)) in
-    e ∙ (ap₂ (λ o xs. unwrap_or o (length xs)) (f ∙ ap (position (λ b. eqb b sep)) all) all ∙ up-to-position sep (drop from text))
 
 -- A text that comes in two pieces: the first one ends within a part,
 pub split-within : (sep : ℕ) (begun text more : Text) → length text ≤ up_to sep text → split sep begun (text ++ more) ≡ split sep (begun ++ text) more

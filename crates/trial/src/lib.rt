@@ -10,8 +10,7 @@ ghost use Rattle.rules.specs.Call.Call.{ON};
 ghost use Rattle.rules.specs.Refusal.{asked_refusal};
 ghost use Rattle.rules.specs.Plain.{answers_from, fresh_model};
 ghost use Rattle.rules.specs.Refusals.{refusal_in};
-ghost use Rattle.store.specs.Shown.{lengths_of};
-ghost use Rattle.access.specs.Reading.{value_in, origin_in};
+ghost use Rattle.store.specs.Shown.{lengths_of, value_in, origin_in};
 ghost use Rattle.store.specs.Memory.{lent_in, SamePieces};
 
 use store::{Memory, Reading, Refusal, State};

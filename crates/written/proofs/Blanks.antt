@@ -7,15 +7,14 @@ use native.Mathlib.Nat.{add_assoc, mul-le-mul_right, suc-mul}
 use native.Mathlib.Numerals.{add-one}
 use native.Mathlib.Decide.{ℕ_discrete}
 use native.Mathlib.Omega.{arith}
-use lib.ListN.{length, get_or, take, drop, length-drop}
-use lib.Seq.{length-take-le, get_or-take, get_or-drop}
+use lib.ListN.{length, get_or}
 use Rattle.rules.specs.Seen.{needs}
 use Rattle.rules.proofs.Count.{any_none}
 use Rattle.frames.specs.Circle.{index_of, frame_at}
 use Rattle.numbers.specs.Digits.{digit}
 use Rattle.frames.proofs.Circle.{index_below, frame-index}
 use Rattle.numbers.proofs.Digits.{bit-none}
-use Rattle.written.specs.Bits.{Written, AsksBlock, AsksSet, place_of, effective, sum_from, set_in}
+use Rattle.written.specs.Bits.{Written, AsksBlock, AsksSet, Near, place_of, effective, sum_from, set_in}
 use Rattle.written.proofs.Areas.{area_below}
 use Rattle.written.proofs.Runs.{standing-none}
 
@@ -55,22 +54,23 @@ module _ (f : ℕ → ℕ) (groups : List ℕ) (at : ℕ) where
       go (yes q) ih = ap (λ (x : ℕ). f (get_or groups (at + x) 0)) q ∙ omega arith
       go (no d) ih = ih (omega arith) (omega arith)
 
--- the groups of a block's lines: how many they are, one more of them, and the end, in the form in which the code has their part of the list
-part-long : (groups : List ℕ) (first place k : ℕ) → first ≡ place → k ≡ 8 → place + 8 ≤ length groups → length (take k (drop first groups)) ≡ 8
-part-long groups first place k p d w = length-take-le k (drop first groups) (omega (arith, length-drop first groups)) ∙ d
+-- the groups of a block's lines
+pub set-near : (lines f block long now n : ℕ) → AsksSet lines f block long → now ≡ long → n < 8
+    → Near lines (f / 16) (block * 8 + n) × (place_of lines (f / 16) (block * 8 + n) < now)
+set-near lines f block long now n a e b = (
+  record { lines_few = a.near.lines_few; area_few = a.near.area_few; line_few = omega (arith, a.near.line_few) },
+  omega (arith, a.within),
+)
 
-pub digits_more : (groups : List ℕ) (lines f block first k here n sum : ℕ) → Added (λ g. digit g (f % 16)) groups (place_of lines (f / 16) (block * 8)) 8 n sum
-    → first ≡ place_of lines (f / 16) (block * 8) → k ≡ 8 → place_of lines (f / 16) (block * 8) + 8 ≤ length groups
-    → n < length (take k (drop first groups)) → (here ≡ 2 ^ (f % 16)) × (0 < here)
-    → Added (λ g. digit g (f % 16)) groups (place_of lines (f / 16) (block * 8)) 8 (n + 1) (sum + get_or (take k (drop first groups)) n 0 / here % 2)
+-- one more of them, in the form in which the code has its number
+pub digits_more : (groups : List ℕ) (lines f block here n sum g : ℕ) → Added (λ g. digit g (f % 16)) groups (place_of lines (f / 16) (block * 8)) 8 n sum → n < 8
+    → (here ≡ 2 ^ (f % 16)) × (0 < here) → g ≡ get_or groups (place_of lines (f / 16) (block * 8 + n)) 0
+    → Added (λ g. digit g (f % 16)) groups (place_of lines (f / 16) (block * 8)) 8 (n + 1) (sum + g / here % 2)
 unfolding digit
-digits_more groups lines f block first k here n sum h p d w b e =
-    let few : n < 8 = omega (arith, b, part-long groups first _ k p d w) in
-    let g : get_or (take k (drop first groups)) n 0 ≡ get_or groups (place_of lines (f / 16) (block * 8) + n) 0 =
-    get_or-take k (drop first groups) n 0 (omega arith) ∙ (get_or-drop first groups n 0 ∙ ap (λ (i : ℕ). get_or groups (i + n) 0) p)
-    in
-    added_more (λ g. digit g (f % 16)) groups (place_of lines (f / 16) (block * 8)) 8 n sum _ h few (omega arith)
-    (ap₂ (λ (y x : ℕ). y / x % 2) g e.0)
+digits_more groups lines f block here n sum g h b e d =
+    let place : place_of lines (f / 16) (block * 8 + n) ≡ place_of lines (f / 16) (block * 8) + n = omega arith in
+    added_more (λ g. digit g (f % 16)) groups (place_of lines (f / 16) (block * 8)) 8 n sum _ h b (omega arith)
+    (ap₂ (λ (y x : ℕ). y / x % 2) (d ∙ ap (λ (i : ℕ). get_or groups i 0) place) e.0)
 
 -- the groups of neighbouring lines of an area lie in the lent list
 span-within : (lines frames z first count long : ℕ) → frames % 16 ≡ 0 → z < frames → first + count ≤ lines → frames / 16 * lines ≤ long
@@ -79,13 +79,10 @@ span-within lines frames z first count long by b c enough =
     omega (arith, mul-le-mul_right lines (area_below frames z by b), suc-mul (z / 16) lines)
 
 -- A block's bits of one frame, counted,
-pub set-end : (lines f block first k : ℕ) (groups : List ℕ) (n sum : ℕ)
-    → Added (λ g. digit g (f % 16)) groups (place_of lines (f / 16) (block * 8)) 8 n sum
-    → first ≡ place_of lines (f / 16) (block * 8) → k ≡ 8 → place_of lines (f / 16) (block * 8) + 8 ≤ length groups
-    → length (take k (drop first groups)) ≤ n → sum ≡ set_in lines groups f block
+pub set-end : (lines f block : ℕ) (groups : List ℕ) (n sum : ℕ)
+    → Added (λ g. digit g (f % 16)) groups (place_of lines (f / 16) (block * 8)) 8 n sum → 8 ≤ n → sum ≡ set_in lines groups f block
 unfolding set_in
-set-end lines f block first k groups n sum h p d w b =
-    added-end (λ g. digit g (f % 16)) groups (place_of lines (f / 16) (block * 8)) 8 n sum h (omega (arith, b, part-long groups first _ k p d w))
+set-end lines f block groups n sum h b = added-end (λ g. digit g (f % 16)) groups (place_of lines (f / 16) (block * 8)) 8 n sum h b
 
 -- and what follows.
 module _ (w : Written) (block f : ℕ) (a : AsksBlock w block w.frames × (f < w.frames)) where

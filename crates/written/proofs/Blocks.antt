@@ -135,29 +135,26 @@ none_more w l from i end up r h e f eu k a b =
       | no c ↦ false-from i (i + up_of w.frames w.omf i end) (λ k. effective w k l) (sym e ∙ f) k (omega arith) (omega (arith, eu))
     ]
 
-pub line_none : (w : Written) (l from end i : ℕ) → NoneIn w l from i → end ≤ i → false ≡ any_from from end (λ k. effective w k l)
-line_none w l from end i h b = sym (from_false from end (λ k. effective w k l) (λ k a c. h k a (omega arith)))
+-- and the lines of a block, one after the other.
+abbrev pub NoneBefore : Written → (block n from end : ℕ) → Type 0
+NoneBefore w block n from end = (m : ℕ) → m < n → NoneIn w (block * 8 + m) from end
 
-pub line-found : (w : Written) (l from end i : ℕ) (r : Bool) → from ≤ i → r ≡ run_has w l i end → r ≡ true
-    → true ≡ any_from from end (λ k. effective w k l)
-unfolding run_has up_of
-line-found w l from end i r c e h =
-    let found = true-from i (i + up_of w.frames w.omf i end) (λ k. effective w k l) (sym e ∙ h) in
-    sym (from-true from end found.0 (λ k. effective w k l) (omega (arith, found.1)) (omega (arith, found.2)) found.3)
+pub lines_more : (w : Written) (block n from end i : ℕ) → NoneBefore w block n from end → NoneIn w (block * 8 + n) from i → end ≤ i
+    → NoneBefore w block (n + 1) from end
+lines_more w block n from end i h g e m b k a c =
+    elim (ℕ_discrete m n) [ yes q ↦ ap (λ (z : ℕ). effective w k (block * 8 + z)) q ∙ g k a (omega arith) | no d ↦ h m (omega arith) k a c ]
 
--- The lines of a block, one after the other.
-pub line_more : (f : ℕ → Bool) (n : ℕ) (r : Bool) → ((m : ℕ) → m < n → f m ≡ false) → r ≡ f n → r ≡ false → (m : ℕ) → m < n + 1 → f m ≡ false
-line_more f n r h e g m b = elim (ℕ_discrete m n) [ yes q ↦ ap f q ∙ (sym e ∙ g) | no d ↦ h m (omega arith) ]
-
-pub block_none : (w : Written) (block n from end : ℕ) → ((m : ℕ) → m < n → any_from from end (λ i. effective w i (block * 8 + m)) ≡ false) → 8 ≤ n
-    → false ≡ block_has w block from end
+pub block_none : (w : Written) (block n from end : ℕ) → NoneBefore w block n from end → 8 ≤ n → false ≡ block_has w block from end
 unfolding block_has
-block_none w block n from end h b = sym (any_none 8 _ (λ m c. h m (omega arith)))
+block_none w block n from end h b =
+    sym (any_none 8 _ (λ m c. from_false from end (λ i. effective w i (block * 8 + m)) (h m (omega arith))))
 
-pub block-found : (w : Written) (block n from end : ℕ) (r : Bool) → n < 8 → r ≡ any_from from end (λ i. effective w i (block * 8 + n)) → r ≡ true
+pub block-found : (w : Written) (block n from end i : ℕ) (r : Bool) → n < 8 → from ≤ i → r ≡ run_has w (block * 8 + n) i end → r ≡ true
     → true ≡ block_has w block from end
-unfolding block_has
-block-found w block n from end r b e h = sym (any-true 8 _ n b (sym e ∙ h))
+unfolding block_has run_has up_of
+block-found w block n from end i r b c e h =
+    let found = true-from i (i + up_of w.frames w.omf i end) (λ k. effective w k (block * 8 + n)) (sym e ∙ h) in
+    sym (any-true 8 _ n b (from-true from end found.0 (λ k. effective w k (block * 8 + n)) (omega (arith, found.1)) (omega (arith, found.2)) found.3))
 
 -- The window of one frame,
 pub one-frame : (w : Written) (block i j : ℕ) (r : Bool) → i ≡ j → r ≡ block_has w block i (i + 1) → r ≡ needs (effective w j) block

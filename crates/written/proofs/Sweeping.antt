@@ -11,7 +11,7 @@ use lib.Arith.{digits_div}
 use lib.Bits.{bit_and}
 use lib.ListN.{length, get_or, set}
 use Rattle.lists.specs.Lists.{rewrite, rewrite_from}
-use Rattle.written.specs.Bits.{Written, written_of, AsksWritten, place_of, tag_of, bound_of, first_index, cut_of, window_of}
+use Rattle.written.specs.Bits.{Written, written_of, AsksWritten, Near, place_of, tag_of, bound_of, first_index, cut_of, window_of}
 use Rattle.written.specs.Steps.{masked_of, Masks, Entered, swept, lower_bound, next_tag, RolledBack}
 use Rattle.lists.proofs.Lists.{Rewritten, rewrite-start, rewrite-end, rewrite-behind}
 use Rattle.written.proofs.Windows.{cut-and}
@@ -38,8 +38,12 @@ masked-told frames omf area s u history masks es eu h g =
     cc
 
 -- The groups of a working area lie in the lent list,
-pub area-within : (w : Written) (area : ℕ) → AsksWritten w → area < w.frames / 16 → place_of w.lines area 0 + w.lines ≤ length w.groups
-area-within w area a b = omega (arith, a.groups_long, mul-le-mul_right w.lines b, suc-mul area w.lines)
+pub area-near : (w : Written) (area line now : ℕ) → AsksWritten w → area < w.frames / 16 → now ≡ length w.groups → line < w.lines
+    → Near w.lines area line × (place_of w.lines area line < now)
+area-near w area line now a b e c = (
+  record { lines_few = a.lines_few; area_few = omega (arith, a.frames_few); line_few = omega (arith, a.lines_few) },
+  omega (arith, a.groups_long, mul-le-mul_right w.lines b, suc-mul area w.lines),
+)
 
 -- and a list that is rewritten area by area has these groups rewritten one turn later.
 pub area-more : (lines area : ℕ) (h : ℕ → ℕ → ℕ) (xs now after : List ℕ) → Rewritten (area * lines) (λ at g. h (at / lines) g) xs now

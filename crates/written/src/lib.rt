@@ -6,7 +6,7 @@ ghost use Rattle.std.specs.Prelude.{◌≡◌, ◌+◌, ◌*◌, ◌/◌, ◌≤
 ghost use Rattle.std.proofs.Math.ListN;
 ghost use Rattle.rules.specs.Seen.{needs};
 ghost use Rattle.frames.specs.Circle.{Turn, index_of};
-ghost use Rattle.written.specs.Bits.{written_at, AsksWritten, Asks, AsksBlock, AsksSet, Near, place_of, bound_of, effective, newest_from, newest_run, newest_in_area, down_of, up_of, stands_in, any_from, run_has, block_has, set_in, first_index, before_wrap, after_wrap, cut_of, window_of};
+ghost use Rattle.written.specs.Bits.{written_at, AsksWritten, Asks, AsksBlock, AsksSet, Near, place_of, bound_of, effective, newest_from, newest_run, newest_in_area, down_of, up_of, stands_in, run_has, block_has, set_in, first_index, before_wrap, after_wrap, cut_of, window_of};
 ghost use Rattle.written.specs.Steps.{AsksWindow, AsksReset, regrouped, with_written, renewed, Entered, settled, compared, Masks, swept_area, swept, unset_in, cleared_block, lower_bound, lowered, RolledBack, blanked};
 
 // What places the lent lists: L, the circle of frames and OMF.
@@ -144,24 +144,8 @@ fn run_has(groups: &[u32], history: &[u16], shape: Shape, line: u32, index: u32,
     stands_in(group, bound, frame % 16, index, run_up(shape, index, end))
 }
 
-// Whether a line has an effective bit in a window of indexes: left at the first such bit. One group is read for each working area that the
-// window touches.
-fn line_has(groups: &[u32], history: &[u16], shape: Shape, line: u32, from: u32, end: u32) -> bool
-    requires { (AsksWritten (written_at shape groups.now history.now)) × (line < shape.lines) × (end ≤ shape.frames) }
-    ensures { result ≡ any_from from end (λ i. effective (written_at shape groups.now history.now) i line) }
-{
-    let mut i = from;
-    // A while: each turn goes up by what is left of a working area, which is no fixed step.
-    while i < end {
-        if run_has(groups, history, shape, line, i, end) {
-            return true;
-        }
-        i += run_up(shape, i, end);
-    }
-    false
-}
-
-// Whether one of a block's eight lines has an effective bit in a window of indexes: left at the first such bit.
+// Whether one of a block's eight lines has an effective bit in a window of indexes: left at the first such bit. Of each line one group
+// is read for each working area that the window touches.
 pub fn block_has(
     groups: &[u32],
     history: &[u16],
@@ -173,12 +157,19 @@ pub fn block_has(
     requires { AsksBlock (written_at shape groups.now history.now) block end }
     ensures { result ≡ block_has (written_at shape groups.now history.now) block from end }
 {
-    for n in 0..8 {
-        if line_has(groups, history, shape, block * 8 + n, from, end) {
-            return true;
+    let mut found = false;
+    'lines: for n in 0..8 {
+        let mut i = from;
+        // A while: each turn goes up by what is left of a working area, which is no fixed step.
+        while i < end {
+            if run_has(groups, history, shape, block * 8 + n, i, end) {
+                found = true;
+                break 'lines;
+            }
+            i += run_up(shape, i, end);
         }
     }
-    false
+    found
 }
 
 // How many of a block's eight lines have their bit of a frame set, effective or stale: counted in one go, without a look at the history.
@@ -187,10 +178,9 @@ fn set_in(groups: &[u32], shape: Shape, frame: u32, block: u32) -> u32
     ensures { result ≡ set_in shape.lines groups.now frame block }
 {
     let here = numbers::power_of_two(frame % 16);
-    let first = place_of(shape, frame / 16, block * 8);
     let mut sum = 0;
-    for group in &groups[first..first + 8] {
-        sum += *group / here % 2;
+    for n in 0..8 {
+        sum += group_at(groups, shape, frame / 16, block * 8 + n) / here % 2;
     }
     sum
 }
@@ -229,9 +219,10 @@ pub fn clear_block(groups: &mut [u32], shape: Shape, frame: u32, block: u32)
     requires { AsksSet shape.lines frame block (length groups.old) }
     ensures { groups.new ≡ cleared_block shape.lines frame block groups.old }
 {
-    let first = place_of(shape, frame / 16, block * 8);
-    for group in &mut groups[first..first + 8] {
-        *group = unset(*group, frame);
+    for n in 0..8 {
+        let line = block * 8 + n;
+        let group = group_at(groups, shape, frame / 16, line);
+        put_group(groups, shape, frame / 16, line, unset(group, frame));
     }
 }
 
@@ -353,11 +344,10 @@ fn sweep_area(groups: &mut [u32], history: &[u16], shape: Shape, area: u32)
     let s = first_index(shape, area);
     let u = u32::min(16, shape.frames - s);
     let masks = masks_of(history, s, u);
-    let first = place_of(shape, area, 0);
-    let behind = first + shape.lines as usize;
-    for group in &mut groups[first..behind] {
-        let tag = (*group / 65536 % 256) as usize;
-        *group &= masks[tag];
+    for line in 0..shape.lines {
+        let group = group_at(groups, shape, area, line);
+        let tag = (group / 65536 % 256) as usize;
+        put_group(groups, shape, area, line, group & masks[tag]);
     }
 }
 

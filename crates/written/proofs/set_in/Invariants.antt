@@ -5,6 +5,6 @@ use Rattle.written.specs.Bits.{place_of}
 use Rattle.written.proofs.Blanks.{Added}
 use Rattle.written.proofs.set_in.Given as goal
 
-abbrev pub invariant-loop-group : goal.invariant-loop-group
-invariant-loop-group l =
-    Added (λ g. digit g (l.frame % 16)) l.groups (place_of l.fn.shape.lines (l.frame / 16) (l.block * 8)) 8 l.group-index l.sum
+abbrev pub invariant-loop-n : goal.invariant-loop-n
+invariant-loop-n l =
+    Added (λ g. digit g (l.frame % 16)) l.groups (place_of l.shape.lines (l.frame / 16) (l.block * 8)) 8 l.n l.sum

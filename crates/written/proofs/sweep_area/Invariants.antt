@@ -1,7 +1,9 @@
 -- `written::sweep_area` meets its contract.
-use Rattle.lists.proofs.Lists.{Rewritten}
+use Rattle.lists.proofs.Lists.{RewrittenFrom}
+use Rattle.written.specs.Bits.{place_of}
 use Rattle.written.specs.Steps.{masked_of}
 use Rattle.written.proofs.sweep_area.Given as goal
 
-abbrev pub invariant-loop-group : goal.invariant-loop-group
-invariant-loop-group l = Rewritten l.group-index (λ _ g. masked_of l.fn.shape.frames l.fn.shape.omf l.area l.history g) l.initial.group-items l.group-items
+abbrev pub invariant-loop-line : goal.invariant-loop-line
+invariant-loop-line l =
+    RewrittenFrom (place_of l.shape.lines l.area 0) (masked_of l.shape.frames l.shape.omf l.area l.history) l.initial.groups l.shape.lines l.line l.groups
